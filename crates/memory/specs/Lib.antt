@@ -1,0 +1,5 @@
+pub mod Makes
+pub mod Meanings
+pub mod Faults
+pub mod Calls
+pub mod Flats
