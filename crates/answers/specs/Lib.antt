@@ -1,0 +1,4 @@
+pub mod Buffers
+pub mod Digits
+pub mod Answers
+pub mod Steps
