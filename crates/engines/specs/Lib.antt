@@ -1,0 +1,3 @@
+pub mod Spans
+pub mod Ran
+pub mod Erasing
