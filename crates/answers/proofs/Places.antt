@@ -1,7 +1,7 @@
 -- Bytes at their places: a digit before others, and what is kept where bytes are added.
-use Rattle.std.proofs.Common.{◌≡◌, ℕ, zero, suc, ◌+◌, ◌-◌, ◌*◌, ◌/◌, ◌%◌, ◌^◌, ◌<◌, ◌≤◌, Bool, true, false, cond, List, [], ◌∷◌, ◌++◌, length, take, drop, set, replicate, is_ok, IfOk, Ok, Err, decimal, Result, sym, refl, ap, ◌∙◌, subst, append_assoc, le_of_suc-le-suc, not-suc-le-zero, arith, length_take, length-take-le, take_take}
+use Rattle.std.proofs.Common.{◌≡◌, ℕ, zero, suc, ◌+◌, ◌-◌, ◌*◌, ◌/◌, ◌%◌, ◌^◌, ◌<◌, ◌≤◌, Bool, true, false, cond, List, [], ◌∷◌, ◌++◌, length, take, drop, set, is_ok, IfOk, Ok, Err, decimal, Result, sym, refl, ap, ◌∙◌, subst, append_assoc, le_of_suc-le-suc, not-suc-le-zero, arith, length-take, take-take}
 use native.Mathlib.Nat.{pow-succ'}
-use lib.Seq.{take_append_le}
+use lib.Seq.{take-append-le}
 use Rattle.std.proofs.lemmas.List.{take_rest}
 use Rattle.std.proofs.lemmas.Fmt.{decimal_digit, decimal_step}
 
@@ -49,7 +49,7 @@ places_left left at i e h k =
 pub kept : (b : Bool) (items after more : List ℕ) (n used : ℕ) → after ≡ cond b (take n items ++ more) items → used ≤ length items → used ≤ n
     → take used after ≡ take used items
 kept true items after more n used e h k =
-    ap (take used) e ∙ take_append_le used (take n items) more (omega (arith, length_take n items)) ∙ take_take used n items k
+    ap (take used) e ∙ take-append-le used (take n items) more (omega (arith, length-take n items)) ∙ take-take used n items k
 kept false items after more n used e h k = ap (take used) e
 
 pub as_long : (b : Bool) (after n len used : ℕ) → after ≡ cond b n len → used ≤ n → used ≤ len → used ≤ after
@@ -62,4 +62,4 @@ room (Err y) after n len need e h = tt
 
 -- the front of a vector that was filled with as many bytes again
 pub front : (items bytes : List ℕ) (k len : ℕ) → k ≤ len → k ≤ length bytes → take k (take len (bytes ++ drop (length bytes) items)) ≡ take k bytes
-front items bytes k len h l = take_take k len _ h ∙ take_append_le k bytes (drop (length bytes) items) l
+front items bytes k len h l = take-take k len _ h ∙ take-append-le k bytes (drop (length bytes) items) l

@@ -1,4 +1,7 @@
 // A script answered line by line: the bytes that the program prints, and where it has to stop.
+
+#![tactic(auto)]
+
 pub mod answer;
 pub mod buffer;
 pub mod digits;

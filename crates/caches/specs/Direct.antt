@@ -1,5 +1,5 @@
 -- The direct-mapped policy: each set keeps one line or none.
-use Rattle.std.specs.Prelude.{ℕ, List, take, set, replicate, ◌==◌, slice_index, slice_set}
+use Rattle.std.specs.Prelude.{ℕ, List, take, replicate, ◌==◌, slice_index, slice_set}
 use Rattle.caches.specs.Policies.{Rules, Tags}
 use Rattle.caches.specs.Places.{set_at, mark_at}
 use Rattle.caches.specs.declared.geometry.Geometry.{Geometry}

@@ -1,5 +1,5 @@
 -- A layer over any memory: its make is lawful where the one below is, and what its policy does shows as the request that led to it.
-use Rattle.std.specs.Prelude.{◌≡◌, ℕ, ◌+◌, ◌≤◌, min, Bool, true, false, cond, List, [], ◌∷◌, ◌++◌, length, drop, replicate, slice_set, refl}
+use Rattle.std.specs.Prelude.{◌≡◌, ℕ, ◌≤◌, Bool, true, false, cond, List, ◌++◌, length, drop, replicate, slice_set}
 use Rattle.std.proofs.Common.{sym, ap, ◌∙◌, arith}
 use Rattle.std.proofs.lemmas.List.{length-take, length-append, length-replicate, take_at, drop_at, take-append-le}
 use Rattle.memory.specs.Makes.{Request, read, write, Make, Lawful}

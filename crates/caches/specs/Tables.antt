@@ -1,6 +1,6 @@
 -- What is told of an array that is empty, and of one that the direct-mapped policy reads or writes.
 use Rattle.std.specs.Prelude.{◌≡◌, ℕ, zero, suc, ◌/◌, ◌<◌, ◌≤◌, true, List, [], ◌∷◌, length, take, set, replicate, nat_eq, slice_index, slice_set, refl}
-use Rattle.std.proofs.Common.{sym, ap, ◌∙◌, not-suc-le-zero, le_of_suc-le-suc, mod-lt, arith}
+use Rattle.std.proofs.Common.{ap, ◌∙◌, not-suc-le-zero, le_of_suc-le-suc, mod-lt, arith}
 use Rattle.std.proofs.lemmas.List.{get_or-take, get_or-set_same, take-replicate}
 use Rattle.std.proofs.lemmas.Bool.{eq-eqb}
 use Rattle.caches.specs.Policies.{entering}

@@ -1,4 +1,7 @@
 // Cache layers: what every layer does, once, and the policies that decide which lines a layer keeps.
+
+#![tactic(auto)]
+
 pub mod choice;
 pub mod direct;
 pub mod geometry;

@@ -1,4 +1,7 @@
 // cipherbench: reads a script and prints the answers.
+
+#![tactic(auto)]
+
 mod problem;
 mod run;
 
@@ -7,11 +10,8 @@ use crate::run::run;
 use piles::pile::Pile;
 use std::fs::File;
 use std::io::Read;
+use std::process::ExitCode;
 use std::{env, io};
-
-// The message has been printed; the status is 1.
-#[derive(Drop)]
-struct Failed;
 
 const HELP: &str = "usage: cipherbench [FILE]
 
@@ -75,16 +75,16 @@ fn run_pile<'a>(rt: &HostRuntime, text: &'a [u8]) -> Result<(), Problem<'a>> {
     run::<Pile>(rt, text)
 }
 
-// Prints why the program stops.
-fn report(rt: &HostRuntime, done: Result<(), Problem<'_>>) -> Result<(), Failed> {
+// Prints why the program stops; the status is then 1.
+fn report(rt: &HostRuntime, done: Result<(), Problem<'_>>) -> ExitCode {
     let Err(problem) = done else {
-        return Ok(());
+        return ExitCode::SUCCESS;
     };
     let _ = eprintln!(rt; "cipherbench: {problem}");
-    Err(Failed)
+    ExitCode::FAILURE
 }
 
-fn main(rt: HostRuntime) -> Result<(), Failed> {
+fn main(rt: HostRuntime) -> ExitCode {
     let path = match file_name(&rt) {
         Ok(path) => path,
         Err(problem) => return report(&rt, Err(problem)),

@@ -1,6 +1,6 @@
 -- Three spans cleared, by counts that are known under other names.
-use Rattle.std.proofs.Common.{◌≡◌, ℕ, ◌+◌, List, ◌++◌, ap, ◌∙◌}
-use Rattle.trace.specs.Acts.{Act, each, clears}
+use Rattle.std.proofs.Common.{◌≡◌, ℕ, ◌+◌, ◌++◌, ap, ◌∙◌}
+use Rattle.trace.specs.Acts.{each, clears}
 
 module _ (a b c k l s t w v : ℕ) (e : k ≡ l) (f : s ≡ t) (g : w ≡ v) where
   pub same_acts :

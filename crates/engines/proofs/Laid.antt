@@ -1,10 +1,10 @@
 -- From what work on a list did to what its section did, and one section after another.
-use Rattle.std.proofs.Common.{◌≡◌, ℕ, ◌+◌, ◌-◌, ◌<◌, ◌≤◌, List, [], ◌∷◌, ◌++◌, length, take, drop, set, sym, refl, ap, ◌∙◌, subst, append_assoc, append-nil, add-zero, add_assoc, zero-add, mul-add, arith, length-append, length-drop, length-set}
+use Rattle.std.proofs.Common.{◌≡◌, ℕ, ◌+◌, ◌-◌, ◌<◌, ◌≤◌, List, [], ◌∷◌, ◌++◌, length, take, drop, set, sym, refl, ap, ◌∙◌, subst, append_assoc, append-nil, add-zero, zero-add, mul-add, arith, length-append, length-drop, length-set}
 use lib.ListN.{length-map}
 use borrow.Rule.Slice.PartMut.{put_mid}
 use Rattle.std.proofs.lemmas.List.{take_at, drop_at, drop-drop, drop_all, take_rest, take_more_set, drop-set-lt, take-append-drop}
 use Rattle.memory.specs.Meanings.{Meaning}
-use Rattle.trace.specs.Acts.{Act, trace_word, trace_words, written, after, cycles}
+use Rattle.trace.specs.Acts.{Act, trace_word, trace_words, written}
 use Rattle.trace.specs.Did.{Scene, Did}
 use Rattle.trace.specs.declared.pen.Pen.{Pen}
 use Rattle.trace.proofs.Joins.{after_append, cycles_append}

@@ -1,4 +1,7 @@
 // The sections of a run over any memory.
+
+#![tactic(auto)]
+
 pub mod fault;
 pub mod regions;
 pub mod sections;

@@ -20,11 +20,11 @@ pub(crate) fn write_all<M: Memory>(
     words: &[u32],
 ) -> Result<u32, Unrecorded>
     requires held { Admits (M.Memory.meaning memory.old) first (length words.now) }
-    requires ready { Ready (length words.now) (seen M.Memory.meaning memory trace pen) }
+    requires ready { Ready (length words.now) (seen M.Memory.meaning memory.old trace.old pen.old) }
     ensures lender { trace.new.items.ghost_name ≡ trace.old.items.ghost_name }
     ensures did { MatchResult result
         (Did (length words.now) (each (length words.now) (puts first words.now))
-        (seen M.Memory.meaning memory.entry trace.entry pen.entry) (seen M.Memory.meaning memory.exit trace.exit pen.exit))
+        (seen M.Memory.meaning memory.old trace.old pen.old) (seen M.Memory.meaning memory.new trace.new pen.new))
         (λ _. ⊥) }
 {
     let mut cycles = 0;
@@ -42,13 +42,13 @@ pub(crate) fn read_all<M: Memory>(
     first: usize,
     out: &mut [u32],
 ) -> Result<u32, Unrecorded>
-    requires held { first + length out.old ≤ length (words_of M.Memory.meaning memory) }
-    requires ready { Ready (length out.old) (seen M.Memory.meaning memory trace pen) }
+    requires held { first + length out.old ≤ length (words_of M.Memory.meaning memory.old) }
+    requires ready { Ready (length out.old) (seen M.Memory.meaning memory.old trace.old pen.old) }
     ensures lender { trace.new.items.ghost_name ≡ trace.old.items.ghost_name }
     ensures did { MatchResult result
-        (λ paid. (out.new ≡ span (words_of M.Memory.meaning memory.entry) first (length out.old))
+        (λ paid. (out.new ≡ span (words_of M.Memory.meaning memory.old) first (length out.old))
         × Did (length out.old) (each (length out.old) (gets first))
-        (seen M.Memory.meaning memory.entry trace.entry pen.entry) (seen M.Memory.meaning memory.exit trace.exit pen.exit) paid)
+        (seen M.Memory.meaning memory.old trace.old pen.old) (seen M.Memory.meaning memory.new trace.new pen.new) paid)
         (λ _. ⊥) }
 {
     let mut cycles = 0;
@@ -69,11 +69,11 @@ pub(crate) fn clear_all<M: Memory>(
     count: usize,
 ) -> Result<u32, Unrecorded>
     requires held { Admits (M.Memory.meaning memory.old) first count }
-    requires ready { Ready count (seen M.Memory.meaning memory trace pen) }
+    requires ready { Ready count (seen M.Memory.meaning memory.old trace.old pen.old) }
     ensures lender { trace.new.items.ghost_name ≡ trace.old.items.ghost_name }
     ensures did { MatchResult result
         (Did count (each count (clears first))
-        (seen M.Memory.meaning memory.entry trace.entry pen.entry) (seen M.Memory.meaning memory.exit trace.exit pen.exit))
+        (seen M.Memory.meaning memory.old trace.old pen.old) (seen M.Memory.meaning memory.new trace.new pen.new))
         (λ _. ⊥) }
 {
     let mut cycles = 0;
@@ -93,12 +93,12 @@ pub(crate) fn clear_three<M: Memory>(
     three: Span,
 ) -> Result<u32, Unrecorded>
     requires held { AllHeld (M.Memory.meaning memory.old) (one ∷ two ∷ three ∷ []) }
-    requires ready { Ready (one.count + (two.count + three.count)) (seen M.Memory.meaning memory trace pen) }
+    requires ready { Ready (one.count + (two.count + three.count)) (seen M.Memory.meaning memory.old trace.old pen.old) }
     ensures lender { trace.new.items.ghost_name ≡ trace.old.items.ghost_name }
     ensures did { MatchResult result
         (Did (one.count + (two.count + three.count))
         (each one.count (clears one.first) ++ (each two.count (clears two.first) ++ each three.count (clears three.first)))
-        (seen M.Memory.meaning memory.entry trace.entry pen.entry) (seen M.Memory.meaning memory.exit trace.exit pen.exit))
+        (seen M.Memory.meaning memory.old trace.old pen.old) (seen M.Memory.meaning memory.new trace.new pen.new))
         (λ _. ⊥) }
 {
     let first = clear_all(memory, trace, pen, one.first, one.count)?;

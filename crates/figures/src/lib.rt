@@ -1,4 +1,7 @@
 // Worked figures: what the definitions give for examples that were worked out by hand, as one theorem over their list.
+
+#![tactic(auto)]
+
 ghost use Rattle.std.specs.Prelude.{◌≡◌, length};
 ghost use Rattle.figures.specs.Figures.{Stands, figures};
 

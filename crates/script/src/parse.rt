@@ -11,7 +11,7 @@ use text::scanner::Scanner;
 
 /// What the next word says.
 fn take<'a, T: FromWord>(words: &mut Scanner<'a>, expected: Expected) -> Result<T, Mistake<'a>>
-    ensures read { told_with result (unread words.new) ≡ one expected meaning (unread words.old) }
+    ensures read { told_with result (unread words.new) ≡ one expected T.meaning (unread words.old) }
     ensures line { SameLine words.old words.new }
 {
     let found = words.next_word();

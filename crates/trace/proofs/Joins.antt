@@ -1,8 +1,8 @@
-use Rattle.std.proofs.Common.{◌≡◌, ℕ, zero, suc, ◌+◌, List, [], ◌∷◌, ◌++◌, map, length, set, sym, refl, ap, ◌∙◌, subst, add-zero, add_assoc, zero-add, mul-add, add-one, arith, length-append, length-set}
+use Rattle.std.proofs.Common.{◌≡◌, ℕ, zero, suc, ◌+◌, List, [], ◌∷◌, ◌++◌, map, length, set, sym, refl, ap, ◌∙◌, subst, add-zero, add_assoc, zero-add, mul-add, add-one, arith, length-append}
 use mathlib.Core.List.{map-append}
 use lib.ListN.{length-map}
 use Rattle.memory.specs.Meanings.{Meaning}
-use Rattle.trace.specs.Acts.{Act, reads, writes, request, does, after, cycles, trace_word, written, each}
+use Rattle.trace.specs.Acts.{Act, request, does, after, cycles, trace_word, written, each}
 use Rattle.trace.specs.Did.{Scene, Did}
 
 pub after_append : (m : Meaning) (xs ys : List Act) → after m (xs ++ ys) ≡ after (after m xs) ys

@@ -1,8 +1,8 @@
 -- What reading and writing a span leaves.
-use Rattle.std.proofs.Common.{◌≡◌, ℕ, zero, suc, ◌+◌, ◌-◌, ◌<◌, ◌≤◌, ◌≢◌, List, [], ◌∷◌, ◌++◌, length, get_or, take, drop, set, sym, refl, ap, ◌∙◌, subst, inl, inr, eq-or-lt_of_le, arith, length-drop, length-set}
+use Rattle.std.proofs.Common.{◌≡◌, ℕ, zero, suc, ◌+◌, ◌-◌, ◌<◌, ◌≤◌, List, [], ◌∷◌, ◌++◌, length, get_or, take, drop, set, sym, refl, ap, ◌∙◌, subst, inl, inr, eq-or-lt_of_le, arith, length-drop, length-set}
 use Rattle.std.proofs.lemmas.List.{get_or-set_same, get_or-set_other, get_or-take, get_or-drop, length-take-le, ext_get_or, drop-set-add, take_more_set, drop-take, take-take, drop-drop}
-use Rattle.memory.specs.Meanings.{Meaning, fetched, stored}
-use Rattle.trace.specs.Acts.{Act, reads, writes, after, each, gets, puts, span}
+use Rattle.memory.specs.Meanings.{Meaning}
+use Rattle.trace.specs.Acts.{Act, after, each, gets, puts, span}
 use Rattle.trace.specs.Did.{Scene, Did}
 use Rattle.trace.proofs.Joins.{after_append}
 use Rattle.trace.proofs.Kept.{Elsewhere, spared}

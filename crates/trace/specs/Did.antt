@@ -1,6 +1,5 @@
 -- What a piece of code did, told by its acts.
 use Rattle.std.specs.Prelude.{◌≡◌, ℕ, ◌+◌, ◌*◌, ◌%◌, ◌^◌, ◌≤◌, List, length}
-use Rattle.std.specs.Borrow.{Bor}
 use Rattle.memory.specs.Meanings.{Meaning}
 use Rattle.trace.specs.Acts.{Act, after, cycles, trace_words, written}
 use Rattle.trace.specs.declared.list.Bounded.{Bounded}
@@ -36,9 +35,9 @@ pub record Did (n : ℕ) (acts : List Act) (s t : Scene) (paid : ℕ) : Type 0 w
   pub room : length t.items ≡ length s.items
   pub fits : paid ≤ 65535 * n
 
--- the scene behind three references, and the words behind one
-abbrev pub seen : {X : Type 0} → (X → Meaning) → Bor X → Bor (Bounded ℕ) → Bor Pen → Scene
-seen meaning m b p = scene (meaning m.now) b.now p.now
+-- the scene of a memory, a trace and a pen, and the words of a memory
+abbrev pub seen : {X : Type 0} → (X → Meaning) → X → Bounded ℕ → Pen → Scene
+seen meaning m b p = scene (meaning m) b p
 
-abbrev pub words_of : {X : Type 0} → (X → Meaning) → Bor X → List ℕ
-words_of meaning m = (meaning m.now).contents
+abbrev pub words_of : {X : Type 0} → (X → Meaning) → X → List ℕ
+words_of meaning m = (meaning m).contents

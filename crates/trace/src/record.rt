@@ -65,8 +65,8 @@ pub fn record_fetch<M: Memory>(
     ensures did { MatchResult result
         (λ v. (address < length (M.Memory.meaning memory.old).contents)
         × (v.0 ≡ slice_index (M.Memory.meaning memory.old).contents address)
-        × Did 1 (reads address ∷ []) (seen M.Memory.meaning memory.entry trace.entry pen.entry) (seen M.Memory.meaning memory.exit trace.exit pen.exit) v.1)
-        (Unasked (seen M.Memory.meaning memory.entry trace.entry pen.entry) address (seen M.Memory.meaning memory.exit trace.exit pen.exit)) }
+        × Did 1 (reads address ∷ []) (seen M.Memory.meaning memory.old trace.old pen.old) (seen M.Memory.meaning memory.new trace.new pen.new) v.1)
+        (Unasked (seen M.Memory.meaning memory.old trace.old pen.old) address (seen M.Memory.meaning memory.new trace.new pen.new)) }
 {
     if trace.is_full() {
         return Err(Unrecorded::NoRoom);
@@ -89,8 +89,8 @@ pub fn record_store<M: Memory>(
     ensures lender { trace.new.items.ghost_name ≡ trace.old.items.ghost_name }
     ensures did { MatchResult result
         (λ v. (address < length (M.Memory.meaning memory.old).contents)
-        × Did 1 (writes address word ∷ []) (seen M.Memory.meaning memory.entry trace.entry pen.entry) (seen M.Memory.meaning memory.exit trace.exit pen.exit) v)
-        (Unasked (seen M.Memory.meaning memory.entry trace.entry pen.entry) address (seen M.Memory.meaning memory.exit trace.exit pen.exit)) }
+        × Did 1 (writes address word ∷ []) (seen M.Memory.meaning memory.old trace.old pen.old) (seen M.Memory.meaning memory.new trace.new pen.new) v)
+        (Unasked (seen M.Memory.meaning memory.old trace.old pen.old) address (seen M.Memory.meaning memory.new trace.new pen.new)) }
 {
     if trace.is_full() {
         return Err(Unrecorded::NoRoom);

@@ -1,4 +1,7 @@
 // Worked examples as tables, run on the code itself.
+
+#![tactic(auto)]
+
 #[cfg(test)]
 mod dear;
 #[cfg(test)]

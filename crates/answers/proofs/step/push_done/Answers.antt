@@ -6,7 +6,7 @@ use Rattle.answers.proofs.step.push_done.Goals as goal
 
 pub returns : goal.returns
 returns c =
-    let named = held c.push-name.new.out in
+    let named = held c.push_name.new.out in
     let text = reply_text c.args.reply in
-    behind (held c.args.out.now) named _ (name_of c.args.command) (text ++ (10 ∷ [])) c.in-ok-push-name.ensures
-    (behind named (held c.push-reply.new.out) _ text (10 ∷ []) c.in-ok-push-reply.ensures c.in-ok-put.ensures)
+    behind (held c.args.out.now) named _ (name_of c.args.command) (text ++ (10 ∷ [])) c.in_ok-push_name.ensures
+    (behind named (held c.push_reply.new.out) _ text (10 ∷ []) c.in_ok-push_reply.ensures c.in_ok-put.ensures)

@@ -4,4 +4,4 @@ use Rattle.ciphers.proofs.aes.add_round_key.Goals as goal
 
 pub returns : goal.returns
 unfolding aes_add_key
-returns c = four_equal c.add-word.ensures c.add-word-2.ensures c.add-word-3.ensures c.add-word-4.ensures
+returns c = four_equal c.add_word.ensures c.add_word-2.ensures c.add_word-3.ensures c.add_word-4.ensures

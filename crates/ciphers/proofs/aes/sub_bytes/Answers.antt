@@ -4,4 +4,4 @@ use Rattle.ciphers.proofs.aes.sub_bytes.Goals as goal
 
 pub returns : goal.returns
 unfolding aes_sub_bytes
-returns c = four_equal c.sub-column.ensures c.sub-column-2.ensures c.sub-column-3.ensures c.sub-column-4.ensures
+returns c = four_equal c.sub_column.ensures c.sub_column-2.ensures c.sub_column-3.ensures c.sub_column-4.ensures

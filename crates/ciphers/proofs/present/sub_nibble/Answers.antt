@@ -7,4 +7,4 @@ pub returns : goal.returns
 returns c =
     let v = c.args.v in
     let low : v % 16 ≡ v = omega arith in
-    omega (arith, c.sub-byte.ensures, ap present_s low, present_s_below v)
+    omega (arith, c.sub_byte.ensures, ap present_s low, present_s_below v)

@@ -14,7 +14,7 @@ loop-i-preserved c =
     let out = c.loop-i.out in
     let so_far : out ≡ present_nibbles (2 * i) (s / 2 ^ (64 - 8 * i)) = c.loop-i.invariant in
     let room : out < 2 ^ 56 = omega (arith, so_far, nibbles_room s i c.loop-i-test.true) in
-    ap₂ (λ (x y : ℕ). x + y) (shl_whole out 56 8 64 room (lit≤ tt) ∙ ap (λ (x : ℕ). x * 2 ^ 8) so_far) c.sub-byte.ensures
+    ap₂ (λ (x y : ℕ). x + y) (shl_whole out 56 8 64 room (lit≤ tt) ∙ ap (λ (x : ℕ). x * 2 ^ 8) so_far) c.sub_byte.ensures
     ∙ sym (nibbles_more s i c.loop-i-test.true)
 
 pub returns : goal.returns

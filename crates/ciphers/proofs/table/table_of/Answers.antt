@@ -16,10 +16,10 @@ one_aes_table k (inl e) = sym (ap table e)
 one_aes_table k (inr (inl e)) = sym (ap table e)
 one_aes_table k (inr (inr e)) = sym (ap table e)
 
-pub returns_in_Aes128 : goal.returns-in-Aes128
+pub returns-in-Aes128 : goal.returns-in-Aes128
 unfolding aes_s
-returns_in_Aes128 c = refl ∙ one_aes_table c.args.cipher c.in-Aes128.is
+returns-in-Aes128 c = refl ∙ one_aes_table c.args.cipher c.in-Aes128.is
 
-pub returns_in_Present80 : goal.returns-in-Present80
+pub returns-in-Present80 : goal.returns-in-Present80
 unfolding present_s
-returns_in_Present80 c = refl ∙ sym (ap table c.in-Present80.is)
+returns-in-Present80 c = refl ∙ sym (ap table c.in-Present80.is)

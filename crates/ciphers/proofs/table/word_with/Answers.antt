@@ -6,4 +6,4 @@ use Rattle.ciphers.proofs.table.word_with.Goals as goal
 pub returns : goal.returns
 returns c =
     let v = c.args.v in
-    ap (λ (w : ℕ). get_or (word_bytes w) (v % 4) 0) c.word-of.ensures ∙ table_entry c.args.cipher v
+    ap (λ (w : ℕ). get_or (word_bytes w) (v % 4) 0) c.word_of.ensures ∙ table_entry c.args.cipher v

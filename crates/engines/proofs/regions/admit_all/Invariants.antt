@@ -1,4 +1,4 @@
-use Rattle.std.proofs.Common.{List, drop}
+use Rattle.std.proofs.Common.{drop}
 use Rattle.memory.specs.declared.fault.MemoryFault.{MemoryFault}
 use Rattle.engines.specs.Spans.{AllHeld, FirstBarred}
 use Rattle.engines.proofs.regions.admit_all.Given as goal

@@ -1,4 +1,4 @@
-use Rattle.std.proofs.Common.{◌≡◌, ℕ, ◌+◌, ◌<◌, ◌≢◌, length, get_or, ap, ◌∙◌, arith, rules, below_none, below_more}
+use Rattle.std.proofs.Common.{◌+◌, ◌<◌, ◌≢◌, length, get_or, ap, ◌∙◌, arith, rules, below_none, below_more}
 use Rattle.std.proofs.lemmas.List.{get_or-set_same, get_or-set_other}
 use Rattle.trace.proofs.Joins.{again, starts}
 use Rattle.trace.proofs.Spans.{got_all, is_span}
@@ -10,7 +10,7 @@ loop-i-init g c = (search rules, below_none _, starts _ _)
 pub loop-i-preserved : goal.loop-i-preserved
 loop-i-preserved g c =
     let so_far = c.loop-i.invariant.2 in
-    let fetch = c.in-ok-word.ensures.did in
+    let fetch = c.in_ok-word.ensures.did in
     let lt : c.loop-i.i < length c.loop-i.out = omega arith in (
       search rules,
       below_more _ _

@@ -1,4 +1,4 @@
-use Rattle.std.proofs.Common.{◌≡◌, ℕ, ◌+◌, ◌<◌, length, get_or}
+use Rattle.std.proofs.Common.{◌≡◌, ℕ, ◌+◌, ◌<◌, get_or}
 use Rattle.trace.specs.Acts.{each, gets}
 use Rattle.trace.specs.Did.{scene, Did}
 use Rattle.engines.proofs.spans.read_all.Given as goal

@@ -1,4 +1,4 @@
-use Rattle.std.proofs.Common.{◌≡◌, sym, ap, ◌∙◌, subst}
+use Rattle.std.proofs.Common.{sym, ap, ◌∙◌, subst}
 use Rattle.caches.specs.Policies.{Tags}
 use Rattle.piles.specs.Stacks.{Puts}
 use Rattle.session.specs.Making.{new_tags}

@@ -1,4 +1,4 @@
-use Rattle.std.proofs.Common.{◌≡◌, ℕ, List, take, replicate, vec_items, ap, ◌∙◌, arith}
+use Rattle.std.proofs.Common.{◌≡◌, ℕ, List, take, replicate, vec_items, ap, ◌∙◌}
 use Rattle.std.proofs.lemmas.List.{take_all, length-replicate}
 use Rattle.memory.specs.Flats.{flat_meaning}
 use Rattle.session.proofs.making.zeroed_store.Goals as goal
@@ -6,11 +6,11 @@ use Rattle.session.proofs.making.zeroed_store.Goals as goal
 pub returns : goal.returns
 returns c =
     let size = c.args.size in
-    let enough = c.in-ok-check-word-count.ensures in
-    let prices = c.in-ok-prices.prices in
-    let cheap = c.in-ok-prices.ensures in
-    let zeros : take 4096 (vec_items c.in-ok-words.words) ≡ replicate size 0 =
-    ap (take 4096) (c.in-ok-words.ensures.items-if-clones-equal (λ y e. e))
+    let enough = c.in_ok-check_word_count.ensures in
+    let prices = c.in_ok-prices.prices in
+    let cheap = c.in_ok-prices.ensures in
+    let zeros : take 4096 (vec_items c.in_ok-words.words) ≡ replicate size 0 =
+    ap (take 4096) (c.in_ok-words.ensures.items_if_clones_equal (λ y e. e))
     ∙ take_all 4096 (replicate size 0) (simp length-replicate enough.1)
     in (
       enough,

@@ -5,15 +5,15 @@ use Rattle.text.proofs.scanner.cut_word.Goals as goal
 pub returns : goal.returns
 returns c =
     let facts =
-    cut c.args.text.now c.split-at.result.1.now c.split-at-2.result.0.now c.split-at-2.result.1.now
-    c.run.result c.run-2.result c.run.ensures.value c.split-at.ensures.back c.run-2.ensures.value
-    c.split-at-2.ensures.front c.split-at-2.ensures.back
+    cut c.args.text.now c.split_at.result.1.now c.split_at-2.result.0.now c.split_at-2.result.1.now
+    c.run.result c.run-2.result c.run.ensures.value c.split_at.ensures.back c.run-2.ensures.value
+    c.split_at-2.ensures.front c.split_at-2.ensures.back
     in
     record {
       word = facts.front;
       rest = facts.left;
-      none = λ e. facts.none (omega (arith, c.split-at-2.ensures.front-len));
-      some = λ l. facts.some (omega (arith, c.split-at-2.ensures.front-len));
+      none = λ e. facts.none (omega (arith, c.split_at-2.ensures.front_len));
+      some = λ l. facts.some (omega (arith, c.split_at-2.ensures.front_len));
       line = facts.same;
       within = facts.within;
     }

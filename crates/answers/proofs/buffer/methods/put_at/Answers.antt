@@ -4,17 +4,17 @@ use Rattle.answers.proofs.buffer.methods.put_at.Goals as goal
 
 pub returns : goal.returns
 returns c =
-    let made = c.in-ok-make-room.ensures in
+    let made = c.in_ok-make_room.ensures in
     let text = c.args.text.now in
     let used = c.args.used in
-    let roomy = c.make-room.new.bytes in
-    let bytes = c.write-at.new.bytes in
+    let roomy = c.make_room.new.bytes in
+    let bytes = c.write_at.new.bytes in
     let enough : used + length text ≤ vec_len roomy = made.room in
     record {
       within = made.within;
       room = enough;
-      text = front (vec_items roomy) bytes (used + length text) (vec_len roomy) enough (omega (arith, c.write-at.auto, c.as-mut-slice.ensures.len))
-          ∙ c.write-at.ensures
-          ∙ ap (λ t. take used t ++ text) c.as-mut-slice.ensures.value
+      text = front (vec_items roomy) bytes (used + length text) (vec_len roomy) enough (omega (arith, c.write_at.auto, c.as_mut_slice.ensures.len))
+          ∙ c.write_at.ensures
+          ∙ ap (λ t. take used t ++ text) c.as_mut_slice.ensures.value
           ∙ ap (λ t. t ++ text) made.kept;
     }

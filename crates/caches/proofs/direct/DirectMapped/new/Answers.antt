@@ -6,4 +6,4 @@ use Rattle.caches.proofs.direct.DirectMapped.new.Goals as goal
 pub returns : goal.returns
 returns c =
     let g = c.args.geometry in
-    ap (direct_tags g.line g.sets) (told_empty g.sets c.empty-table.result g.sets_rule.1 c.empty-table.ensures)
+    ap (direct_tags g.line g.sets) (told_empty g.sets c.empty_table.result g.sets_rule.1 c.empty_table.ensures)

@@ -6,4 +6,4 @@ use Rattle.caches.proofs.direct.DirectMappedPolicy.clear.Goals as goal
 pub returns : goal.returns
 returns c =
     let g = c.args.self.now.geometry in
-    ap (direct_tags g.line g.sets) (told_empty g.sets c.empty-table-self.result g.sets_rule.1 c.empty-table-self.ensures)
+    ap (direct_tags g.line g.sets) (told_empty g.sets c.empty_table-self.result g.sets_rule.1 c.empty_table-self.ensures)

@@ -2,6 +2,6 @@ use Rattle.std.proofs.Common.{refl, lit≤}
 use lib.Count.{ones, ones_in}
 use Rattle.caches.proofs.geometry.Geometry.smallest.Goals as goal
 
-pub invariant_of_result : goal.invariant-of-result
+pub invariant_of-result : goal.invariant_of-result
 unfolding ones ones_in
-invariant_of_result c = ((refl, lit≤ tt), ((refl, lit≤ tt), ((lit≤ tt, lit≤ tt), (lit≤ tt, tt))))
+invariant_of-result c = record { line_rule = (refl, lit≤ tt); sets_rule = (refl, lit≤ tt); ways_rule = (lit≤ tt, lit≤ tt); product_rule = lit≤ tt }

@@ -5,4 +5,4 @@ use Rattle.caches.proofs.layer.Layer.read_absent.Goals as goal
 pub returns : goal.returns
 returns g c =
     let m = c.args.self.now in
-    misses _ (g.met.P.Policy.whole m.policy) m.hit.value _ _ _ _ _ _ _ c.requires c.in-ok-word.ensures c.enter.ensures (omega arith)
+    misses _ (g.met.P.Policy.whole m.policy) m.hit.value _ _ _ _ _ _ _ c.requires c.in_ok-word.ensures c.enter.ensures (omega arith)

@@ -5,4 +5,4 @@ use Rattle.caches.proofs.layer.Layer.write_through.Goals as goal
 pub returns : goal.returns
 returns g c =
     let m = c.args.self.now in
-    writes (g.P.Policy.tags m.policy) (g.met.P.Policy.whole m.policy) m.hit.value _ _ _ _ _ _ c.in-ok-price.ensures (omega arith)
+    writes (g.P.Policy.tags m.policy) (g.met.P.Policy.whole m.policy) m.hit.value _ _ _ _ _ _ c.in_ok-price.ensures (omega arith)

@@ -6,4 +6,4 @@ use Rattle.caches.proofs.lru.Lru.new.Goals as goal
 pub returns : goal.returns
 returns c =
     let g = c.args.geometry in
-    ap (lru_tags g.line g.sets g.ways) (told_empty (g.sets * g.ways) c.empty-table.result g.product_rule c.empty-table.ensures)
+    ap (lru_tags g.line g.sets g.ways) (told_empty (g.sets * g.ways) c.empty_table.result g.product_rule c.empty_table.ensures)

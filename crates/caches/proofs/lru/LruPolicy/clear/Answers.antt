@@ -6,4 +6,4 @@ use Rattle.caches.proofs.lru.LruPolicy.clear.Goals as goal
 pub returns : goal.returns
 returns c =
     let g = c.args.self.now.geometry in
-    ap (lru_tags g.line g.sets g.ways) (told_empty (g.sets * g.ways) c.empty-table-self.result g.product_rule c.empty-table-self.ensures)
+    ap (lru_tags g.line g.sets g.ways) (told_empty (g.sets * g.ways) c.empty_table-self.result g.product_rule c.empty_table-self.ensures)
