@@ -9,5 +9,5 @@ returns-then-b-a c =
     let i = c.args.i in
     let j = c.args.j in
     common (region_first r i) (region_words i) (region_first r j) (region_words j) (some_words i c.requires.below.0) (some_words j c.requires.below.1)
-    (omega (arith, c.first-of-a.ensures, c.first-of-b.ensures, c.if-a-b.true))
-    (omega (arith, c.first-of-a.ensures, c.first-of-b.ensures, c.if-b-a.true))
+    (omega (arith, c.first_of-a.ensures, c.first_of-b.ensures, c.if-a-b.true))
+    (omega (arith, c.first_of-a.ensures, c.first_of-b.ensures, c.if-b-a.true))

@@ -1,5 +1,5 @@
 -- Why regions are no placement for a size: the first rule that is broken, at its lowest region.
-use Rattle.std.specs.Prelude.{◌≡◌, ℕ, ◌+◌, ◌<◌}
+use Rattle.std.specs.Prelude.{ℕ, ◌+◌, ◌<◌}
 use Rattle.placement.specs.declared.fault.BenchFault.{BenchFault}
 use Rattle.placement.specs.declared.fault.BenchFault.TheVariants.{RegionPastSize, RegionsShare}
 use Rattle.placement.specs.declared.regions.Regions.{Regions}
