@@ -5,8 +5,4 @@ pub mod Layers
 pub mod Laid
 pub mod Direct
 pub mod Lru
-pub mod Powers
-pub mod Tables
-pub mod Stacking
-pub mod Rows
-pub mod LruPolicyLemmas
+pub mod Laws

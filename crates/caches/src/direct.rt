@@ -1,10 +1,8 @@
 // The direct-mapped policy: each set keeps one line or none, and a read puts its line in.
-ghost use Rattle.std.specs.Prelude.{◌≡◌, length, replicate, refl};
+ghost use Rattle.std.specs.Prelude.{◌≡◌, length, replicate};
 ghost use Rattle.caches.specs.Direct.{direct_tags, mapped};
-ghost use Rattle.std.proofs.Common.{arith};
-ghost use Rattle.std.proofs.lemmas.List.{length-take-le, length-set, length-replicate};
-ghost use Rattle.caches.specs.Powers.{some};
-ghost use Rattle.caches.specs.Tables.{comes};
+ghost use Rattle.caches.specs.Laws.{direct_steady};
+ghost use Rattle.std.proofs.Common.{rules};
 
 use crate::geometry::{Geometry, Held};
 use crate::layer::Layer;
@@ -36,17 +34,9 @@ impl DirectMapped {
 impl Policy for DirectMapped {
     ghost tags = { λ p. mapped p.geometry p.table };
 
-    ghost whole = { λ p. length-take-le _ p.table (omega arith) };
+    ghost whole = { Prim.search rules };
 
-    ghost steady = { λ p.
-        let g = p.geometry in
-        record {
-          whole = length-replicate _ 0;
-          used_whole = λ a t. refl;
-          entered_whole = λ a t. length-set t _ _;
-          stays = λ a t whole kept. kept;
-          comes = λ a t whole. comes g.line g.sets a t (some _ g.sets_rule.0) whole;
-        } };
+    ghost steady = { λ p. direct_steady p.geometry.line p.geometry.sets p.geometry.sets_rule.0 };
 
     fn keeps(&self, at: Held) -> bool {
         self.table[self.geometry.set_of(at)] == self.geometry.mark_of(at)

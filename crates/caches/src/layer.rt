@@ -2,7 +2,7 @@
 ghost use Rattle.std.specs.Prelude.{◌≡◌, true, false};
 ghost use Rattle.memory.specs.Meanings.{chilled};
 ghost use Rattle.caches.specs.Laid.{laid, keeping, Fetched, Stored};
-ghost use Rattle.caches.specs.Stacking.{layer_lawful};
+ghost use Rattle.caches.specs.Laws.{layer_lawful};
 ghost use Rattle.std.proofs.Common.{rules};
 
 use crate::geometry::Held;

@@ -1,11 +1,8 @@
 // The LRU policy: each set keeps up to as many lines as there are ways, newest first, and a read brings its line to the front.
 ghost use Rattle.std.specs.Prelude.{◌≡◌, ℕ, ◌*◌, List, length, replicate};
 ghost use Rattle.caches.specs.Lru.{has, newest, lru_tags, ranked};
-ghost use Rattle.std.proofs.lemmas.List.{length-replicate};
-ghost use Rattle.caches.specs.Powers.{some};
-ghost use Rattle.caches.specs.Rows.{comes};
-ghost use Rattle.caches.specs.LruPolicyLemmas.{same_length};
-ghost use Rattle.std.proofs.Common.{rules, arith};
+ghost use Rattle.caches.specs.Laws.{lru_steady};
+ghost use Rattle.std.proofs.Common.{rules};
 
 use crate::geometry::{Geometry, Held};
 use crate::layer::Layer;
@@ -65,18 +62,9 @@ fn promote(row: &mut [u32], mark: u32)
 impl Policy for Lru {
     ghost tags = { λ p. ranked p.geometry p.table };
 
-    ghost whole = { first_of (Prim.search rules, Prim.grind (arith, Self.row.coded.inj)) };
+    ghost whole = { Prim.search rules };
 
-    ghost steady = { λ p.
-        let g = p.geometry in
-        let kept = λ (a : ℕ) (t : List ℕ) (whole : length t ≡ g.sets * g.ways). comes g.line g.sets g.ways a t (some _ g.sets_rule.0) g.ways_rule.0 whole in
-        record {
-          whole = length-replicate _ 0;
-          used_whole = same_length g.line g.sets g.ways;
-          entered_whole = same_length g.line g.sets g.ways;
-          stays = λ a t whole was. kept a t whole;
-          comes = kept;
-        } };
+    ghost steady = { λ p. lru_steady p.geometry.line p.geometry.sets p.geometry.ways p.geometry.sets_rule.0 p.geometry.ways_rule.0 };
 
     fn keeps(&self, at: Held) -> bool {
         let first = self.geometry.row_of(at);

@@ -2,7 +2,7 @@
 ghost use Rattle.std.specs.Prelude.{◌≡◌, ℕ, ◌<◌, ◌≤◌, ◌⊎◌, take, vec_len, MatchResult};
 ghost use Rattle.memory.specs.declared.fault.MemoryFault.TheVariants.{WordCount};
 ghost use Rattle.memory.specs.Flats.{flat_meaning};
-ghost use Rattle.std.proofs.Common.{rules, arith};
+ghost use Rattle.std.proofs.Common.{rules};
 
 use crate::fault::MemoryFault;
 use crate::memory::Memory;
@@ -44,9 +44,9 @@ impl Flat {
 impl Memory for Flat {
     ghost meaning = { λ m. flat_meaning m.words.items m.prices.first.value m.prices.second.value };
 
-    ghost bounded = { first_of (Prim.search rules, Prim.grind (arith, Self.row.coded.inj)) };
+    ghost bounded = { Prim.search rules };
 
-    ghost lawful = { first_of (Prim.search rules, Prim.grind (arith, Self.row.coded.inj)) };
+    ghost lawful = { Prim.search rules };
 
     fn size(&self) -> usize {
         self.words.len()

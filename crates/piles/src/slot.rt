@@ -1,7 +1,7 @@
 // A place for a layer in a pile: while no layer is in it, every call goes to the memory below.
 ghost use Rattle.std.specs.Prelude.{◌≡◌, true, false};
 ghost use Rattle.piles.specs.Slots.{slotted};
-ghost use Rattle.caches.specs.Stacking.{layer_lawful};
+ghost use Rattle.caches.specs.Laws.{layer_lawful};
 ghost use Rattle.piles.specs.Using.{either_lawful};
 ghost use Rattle.std.proofs.Common.{rules};
 

@@ -1,7 +1,7 @@
 // A memory of four words at a price that no setting reaches, to see where the price of a layer stops.
 ghost use Rattle.std.specs.Prelude.{◌≡◌, [], length};
 ghost use Rattle.memory.specs.Flats.{flat_meaning};
-ghost use Rattle.std.proofs.Common.{rules, arith};
+ghost use Rattle.std.proofs.Common.{rules};
 
 use memory::fault::MemoryFault;
 use memory::memory::Memory;
@@ -15,9 +15,9 @@ pub struct Dear {
 impl Memory for Dear {
     ghost meaning = { λ m. flat_meaning m.words 65400 65535 };
 
-    ghost bounded = { first_of (Prim.search rules, Prim.grind (arith, Self.row.coded.inj)) };
+    ghost bounded = { Prim.search rules };
 
-    ghost lawful = { first_of (Prim.search rules, Prim.grind (arith, Self.row.coded.inj)) };
+    ghost lawful = { Prim.search rules };
 
     fn size(&self) -> usize {
         4

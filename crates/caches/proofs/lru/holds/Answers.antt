@@ -1,5 +1,5 @@
 use Rattle.std.proofs.Common.{sym, ◌∙◌, arith}
-use Rattle.caches.specs.Rows.{has_found, has_more, has_none}
+use Rattle.caches.proofs.Rows.{has_found, has_more, has_none}
 use Rattle.caches.proofs.lru.holds.Goals as goal
 
 pub returns-then-kept-mark : goal.returns-then-kept-mark

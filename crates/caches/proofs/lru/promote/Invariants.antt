@@ -1,5 +1,5 @@
 use Rattle.std.proofs.Common.{◌≡◌, ◌++◌, take, drop}
-use Rattle.caches.specs.Rows.{pushed}
+use Rattle.caches.specs.Laws.{pushed}
 use Rattle.caches.proofs.lru.promote.Given as goal
 
 -- what stands before the way is done; what stands from it on is pushed by the carried line

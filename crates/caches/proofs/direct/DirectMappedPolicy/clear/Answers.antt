@@ -1,6 +1,6 @@
 use Rattle.std.proofs.Common.{ap}
 use Rattle.caches.specs.Direct.{direct_tags}
-use Rattle.caches.specs.Tables.{told_empty}
+use Rattle.caches.proofs.Tables.{told_empty}
 use Rattle.caches.proofs.direct.DirectMappedPolicy.clear.Goals as goal
 
 pub returns : goal.returns

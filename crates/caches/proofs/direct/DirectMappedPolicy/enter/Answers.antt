@@ -1,4 +1,4 @@
-use Rattle.caches.specs.Tables.{told_after}
+use Rattle.caches.proofs.Tables.{told_after}
 use Rattle.caches.proofs.direct.DirectMappedPolicy.enter.Goals as goal
 
 pub returns : goal.returns

@@ -1,4 +1,4 @@
-use Rattle.caches.specs.Tables.{kept_told}
+use Rattle.caches.proofs.Tables.{kept_told}
 use Rattle.caches.proofs.direct.DirectMappedPolicy.keeps.Goals as goal
 
 pub returns : goal.returns

@@ -1,5 +1,5 @@
 use Rattle.std.proofs.Common.{◌/◌, ap, arith}
-use Rattle.caches.specs.Powers.{power}
+use Rattle.caches.proofs.Powers.{power}
 use Rattle.caches.proofs.geometry.Geometry.line_of.Goals as goal
 
 pub overflow_shr-result : goal.overflow_shr-result

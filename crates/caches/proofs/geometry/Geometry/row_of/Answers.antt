@@ -1,5 +1,5 @@
 use Rattle.std.proofs.Common.{ℕ, ◌*◌, ap}
-use Rattle.caches.specs.Powers.{row_within}
+use Rattle.caches.specs.Laws.{row_within}
 use Rattle.caches.proofs.geometry.Geometry.row_of.Goals as goal
 
 pub returns : goal.returns

@@ -1,5 +1,6 @@
 use Rattle.std.proofs.Common.{ℕ, ◌%◌, ◌<◌, sym, ap, ◌∙◌, subst, mod-lt}
-use Rattle.caches.specs.Powers.{masked, some}
+use Rattle.caches.proofs.Powers.{masked}
+use Rattle.caches.specs.Laws.{some}
 use Rattle.caches.proofs.geometry.Geometry.set_of.Goals as goal
 
 pub returns : goal.returns

@@ -1,4 +1,4 @@
-use Rattle.caches.specs.Stacking.{chills}
+use Rattle.caches.proofs.Stacking.{chills}
 use Rattle.caches.proofs.layer.Layer.go_cold.Goals as goal
 
 pub returns : goal.returns

@@ -1,5 +1,5 @@
 use Rattle.std.proofs.Common.{arith}
-use Rattle.caches.specs.Stacking.{misses}
+use Rattle.caches.proofs.Stacking.{misses}
 use Rattle.caches.proofs.layer.Layer.read_absent.Goals as goal
 
 pub returns : goal.returns

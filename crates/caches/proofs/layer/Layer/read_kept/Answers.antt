@@ -1,4 +1,4 @@
-use Rattle.caches.specs.Stacking.{hits}
+use Rattle.caches.proofs.Stacking.{hits}
 use Rattle.caches.proofs.layer.Layer.read_kept.Goals as goal
 
 pub returns : goal.returns

@@ -1,5 +1,5 @@
 use Rattle.std.proofs.Common.{arith}
-use Rattle.caches.specs.Stacking.{writes}
+use Rattle.caches.proofs.Stacking.{writes}
 use Rattle.caches.proofs.layer.Layer.write_through.Goals as goal
 
 pub returns : goal.returns

@@ -1,6 +1,6 @@
 use Rattle.std.proofs.Common.{◌*◌, ap}
 use Rattle.caches.specs.Lru.{lru_tags}
-use Rattle.caches.specs.Tables.{told_empty}
+use Rattle.caches.proofs.Tables.{told_empty}
 use Rattle.caches.proofs.lru.Lru.new.Goals as goal
 
 pub returns : goal.returns

@@ -1,5 +1,5 @@
 use Rattle.std.proofs.Common.{◌∙◌, arith}
-use Rattle.caches.specs.Rows.{kept_at}
+use Rattle.caches.proofs.Rows.{kept_at}
 use Rattle.caches.proofs.lru.LruPolicy.keeps.Goals as goal
 
 pub returns : goal.returns

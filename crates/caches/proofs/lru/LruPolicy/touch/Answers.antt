@@ -1,5 +1,5 @@
 use Rattle.std.proofs.Common.{◌∙◌, arith}
-use Rattle.caches.specs.Rows.{entered_at, length_back}
+use Rattle.caches.proofs.Rows.{entered_at, length_back}
 use Rattle.caches.proofs.lru.LruPolicy.touch.Goals as goal
 
 pub invariant_of-self : goal.invariant_of-self

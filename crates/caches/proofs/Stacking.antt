@@ -1,54 +1,16 @@
 -- A layer over any memory: its make is lawful where the one below is, and what its policy does shows as the request that led to it.
-use Rattle.std.specs.Prelude.{◌≡◌, ℕ, ◌≤◌, Bool, true, false, cond, List, ◌++◌, length, drop, replicate, slice_set}
+use Rattle.std.specs.Prelude.{◌≡◌, ℕ, Bool, true, false, cond, List, ◌++◌, length, drop, replicate, slice_set}
 use Rattle.std.proofs.Common.{sym, ap, ◌∙◌, arith}
-use Rattle.std.proofs.lemmas.List.{length-take, length-append, length-replicate, take_at, drop_at, take-append-le}
-use Rattle.memory.specs.Makes.{Request, read, write, Make, Lawful}
+use Rattle.std.proofs.lemmas.List.{length-append, take_at, drop_at, take-append-le}
+use Rattle.memory.specs.Makes.{read, write}
 use Rattle.memory.specs.Meanings.{Meaning, fetched, stored, chilled}
 use Rattle.memory.specs.Calls.{Peeks, Fetches, Stores}
-use Rattle.caches.specs.Policies.{Rules, Steady, Tags, touching, entering, cleared}
-use Rattle.caches.specs.Layers.{own, through, layer_price, layer_next, layer_make, layered}
-
-pub length_own : (n : ℕ) (s : List ℕ) → length (own n s) ≡ n
-unfolding own
-length_own n s = simp (length-take, length-append, length-replicate) (omega arith)
+use Rattle.caches.specs.Policies.{Tags, touching, entering, cleared}
+use Rattle.caches.specs.Layers.{own, through, layer_make, layered}
 
 pub own_at : (n : ℕ) (t s : List ℕ) → length t ≡ n → own n (t ++ s) ≡ t
 unfolding own
 own_at n t s e = take-append-le n (t ++ s) (replicate n 0) (simp length-append (omega arith)) ∙ take_at t s n e
-
-module _ (p : Rules) (steady : Steady p) (hit : ℕ) (cheap : hit ≤ 255) (k : Make) (below : Lawful k) where
-  capped : (x : ℕ) → through hit x ≤ 65535
-  capped x = omega arith
-
-  either : (b : Bool) (x : ℕ) → cond b hit (through hit x) ≤ 65535
-  either true x = omega arith
-  either false x = capped x
-
-  priced : (q : Request) (s : List ℕ) → layer_price p hit k q s ≤ 65535
-  priced (read a) s = either (p.kept a (own p.count s)) _
-  priced (write a) s = capped _
-
-  emptied : (t r : List ℕ) → length t ≡ p.count → p.empty ++ k.cold (drop p.count (t ++ r)) ≡ p.empty ++ k.cold r
-  emptied t r e = ap (λ (x : List ℕ). p.empty ++ k.cold x) (drop_at t r p.count e)
-
-  -- a read leaves the layer as cold as before, whether its line is kept or not
-  forgets_read :
-      (b : Bool) (a : ℕ) (t r : List ℕ) → length t ≡ p.count
-      → p.empty ++ k.cold (drop p.count (cond b (p.used a t ++ r) (p.entered a t ++ k.next (read a) r))) ≡ p.empty ++ k.cold r
-  forgets_read true a t r e = emptied (p.used a t) r (steady.used_whole a t ∙ e)
-  forgets_read false a t r e =
-      emptied (p.entered a t) _ (steady.entered_whole a t ∙ e) ∙ ap (λ (x : List ℕ). p.empty ++ x) (below.forgets (read a) r)
-
-  forgets : (q : Request) (s : List ℕ) → (layer_make p hit k).cold (layer_next p k q s) ≡ (layer_make p hit k).cold s
-  forgets (read a) s = forgets_read (p.kept a (own p.count s)) a (own p.count s) (drop p.count s) (length_own p.count s)
-  forgets (write a) s =
-      emptied (own p.count s) _ (length_own p.count s) ∙ ap (λ (x : List ℕ). p.empty ++ x) (below.forgets (write a) (drop p.count s))
-
-  settles : (s : List ℕ) → (layer_make p hit k).cold ((layer_make p hit k).cold s) ≡ (layer_make p hit k).cold s
-  settles s = emptied p.empty _ steady.whole ∙ ap (λ (x : List ℕ). p.empty ++ x) (below.settles (drop p.count s))
-
-  pub layer_lawful : Lawful (layer_make p hit k)
-  layer_lawful = record { priced = priced; forgets = forgets; settles = settles }
 
 -- what a policy does shows in its layer as the request that led to it
 module _ (p : Tags) (whole : length p.told ≡ p.rules.count) (hit : ℕ) (m : Meaning) where

@@ -1,6 +1,6 @@
 -- A number of at most 64 with just one bit set is two to its trailing zeros: one test, computed at each of them.
-use Rattle.std.specs.Prelude.{◌≡◌, ℕ, zero, suc, ◌+◌, ◌-◌, ◌*◌, ◌%◌, ◌^◌, ◌<◌, ◌≤◌, Bool, true, false, cond, T, ◌==◌, bit_and, nat_lt}
-use Rattle.std.proofs.Common.{sym, subst, inl, inr, not-suc-le-zero, le_of_suc-le-suc, eq-or-lt_of_le, suc-mul, mul-le-mul_right, arith, eqb→eq, ltb→lt}
+use Rattle.std.specs.Prelude.{◌≡◌, ℕ, zero, suc, ◌-◌, ◌%◌, ◌^◌, ◌<◌, ◌≤◌, Bool, true, false, cond, T, ◌==◌, bit_and, nat_lt}
+use Rattle.std.proofs.Common.{sym, subst, inl, inr, not-suc-le-zero, le_of_suc-le-suc, eq-or-lt_of_le, arith, eqb→eq, ltb→lt}
 use Rattle.std.proofs.lemmas.Nat.{and_mask}
 use Rattle.std.specs.Int.Count.{ones, ones_in, count_trailing_zeros}
 
@@ -51,13 +51,3 @@ power n e h = opened n e (every_at right 65 tested n (omega arith))
 -- such a number less one masks what is left by division
 pub masked : (x n : ℕ) → ones n ≡ 1 → n ≤ 64 → bit_and x (n - 1) ≡ x % n
 masked x n e h = subst (λ (m : ℕ). bit_and x (m - 1) ≡ x % m) (power n e h).1 (and_mask x (count_trailing_zeros 64 n))
-
--- a number with a bit set is not 0
-pub some : (n : ℕ) → ones n ≡ 1 → 0 < n
-unfolding ones ones_in
-some zero e = omega arith
-some (suc n) e = omega arith
-
--- a row ends in the table
-pub row_within : (i s w : ℕ) → i < s → i * w + w ≤ s * w
-row_within i s w h = rw (← suc-mul) (mul-le-mul_right w h)

@@ -1,8 +1,7 @@
 -- What is told of an array that is empty, and of one that the direct-mapped policy reads or writes.
-use Rattle.std.specs.Prelude.{◌≡◌, ℕ, zero, suc, ◌/◌, ◌<◌, ◌≤◌, true, List, [], ◌∷◌, length, take, set, replicate, nat_eq, slice_index, slice_set, refl}
-use Rattle.std.proofs.Common.{ap, ◌∙◌, not-suc-le-zero, le_of_suc-le-suc, mod-lt, arith}
-use Rattle.std.proofs.lemmas.List.{get_or-take, get_or-set_same, take-replicate}
-use Rattle.std.proofs.lemmas.Bool.{eq-eqb}
+use Rattle.std.specs.Prelude.{◌≡◌, ℕ, zero, suc, ◌<◌, ◌≤◌, List, [], ◌∷◌, take, set, replicate, nat_eq, slice_index, slice_set, refl}
+use Rattle.std.proofs.Common.{ap, ◌∙◌, not-suc-le-zero, le_of_suc-le-suc}
+use Rattle.std.proofs.lemmas.List.{get_or-take, take-replicate}
 use Rattle.caches.specs.Policies.{entering}
 use Rattle.caches.specs.Places.{set_at, mark_at}
 use Rattle.caches.specs.Direct.{direct_rules, direct_tags}
@@ -26,10 +25,3 @@ module _ (line sets a : ℕ) (t : List ℕ) where
 
     pub kept_told : nat_eq (slice_index t i) x ≡ (direct_rules line sets).kept a (take sets t)
     kept_told = let g = get_or-take sets t i 0 within in cc
-
-  -- a line that was entered is kept
-  pub comes : 0 < sets → length t ≡ sets → (direct_rules line sets).kept a ((direct_rules line sets).entered a t) ≡ true
-  comes some whole =
-      let placed : set_at line sets a < length t = omega (arith, mod-lt (a / line) some) in
-      eq-eqb (slice_index (slice_set t (set_at line sets a) (mark_at line a)) (set_at line sets a)) (mark_at line a)
-      (get_or-set_same t (set_at line sets a) (mark_at line a) 0 placed)

@@ -1,36 +1,12 @@
 -- Rows of a table: pushing step by step, and a row of the told part.
-use Rattle.std.specs.Prelude.{◌≡◌, ℕ, suc, ◌+◌, ◌*◌, ◌/◌, ◌<◌, ◌≤◌, Bool, true, false, cond, List, [], ◌∷◌, ◌++◌, length, take, drop, ◌==◌, ◌≢◌, slice_index, slice_index_or, slice_set, refl}
-use Rattle.std.proofs.Common.{sym, ap, ◌∙◌, add-one, mod-lt, not-suc-le-zero, arith}
-use Rattle.std.proofs.lemmas.List.{append-nil, append_assoc, length-append, length-take, length-drop, length-take-le, take-append-drop, take_at, drop_at, take_all, drop_all, take-append-le, drop-append-le, drop_more, take_more_set, drop-set-lt, set_split}
+use Rattle.std.specs.Prelude.{◌≡◌, ℕ, ◌+◌, ◌*◌, ◌<◌, ◌≤◌, Bool, true, false, cond, List, [], ◌∷◌, ◌++◌, length, take, drop, ◌≢◌, slice_index, slice_index_or, slice_set}
+use Rattle.std.proofs.Common.{sym, ap, ◌∙◌, add-one, arith}
+use Rattle.std.proofs.lemmas.List.{append-nil, append_assoc, length-append, length-take, length-drop, take-append-drop, take_at, take_all, drop_all, take-append-le, drop-append-le, drop_more, take_more_set, drop-set-lt, set_split}
 use Rattle.std.proofs.lemmas.Bool.{ne_eqb, eq-eqb}
 use Rattle.caches.specs.Policies.{entering}
-use Rattle.caches.specs.Powers.{row_within}
+use Rattle.caches.specs.Laws.{pushed, length_newest, length_with_row}
 use Rattle.caches.specs.Places.{set_at, mark_at}
-use Rattle.caches.specs.Lru.{has, without, newest, row_at, with_row, brought, lru_rules, lru_tags}
-
--- how the loop does it: c is put in front, and each number moves one place on, up to where x stood
-abbrev pub pushed : ℕ → ℕ → List ℕ → List ℕ
-pushed x c [] = []
-pushed x c (y ∷ ys) = c ∷ cond (y == x) ys (pushed x y ys)
-
-pushed_front : (b : Bool) (y : ℕ) (ys ws ps : List ℕ) → take (length ys) (y ∷ ws) ≡ ps → take (length ys) (cond b ys (y ∷ ws)) ≡ cond b ys ps
-pushed_front true y ys ws ps e = take_all (length ys) ys (omega arith)
-pushed_front false y ys ws ps e = e
-
-pub pushed_is : (x c : ℕ) (row : List ℕ) → take (length row) (c ∷ without x row) ≡ pushed x c row
-pushed_is x c [] = refl
-pushed_is x c (y ∷ ys) = ap (λ (r : List ℕ). c ∷ r) (pushed_front (y == x) y ys (without x ys) (pushed x y ys) (pushed_is x y ys))
-
-cond_ap : (b : Bool) (n : ℕ) (xs ys : List ℕ) → length xs ≡ n → length ys ≡ n → length (cond b xs ys) ≡ n
-cond_ap true n xs ys e f = e
-cond_ap false n xs ys e f = f
-
-pub length_pushed : (x c : ℕ) (row : List ℕ) → length (pushed x c row) ≡ length row
-length_pushed x c [] = refl
-length_pushed x c (y ∷ ys) = ap suc (cond_ap (y == x) (length ys) ys (pushed x y ys) refl (length_pushed x y ys))
-
-pub length_newest : (x : ℕ) (row : List ℕ) → length (newest x row) ≡ length row
-length_newest x row = ap (λ (r : List ℕ). length r) (pushed_is x x row) ∙ length_pushed x x row
+use Rattle.caches.specs.Lru.{has, newest, row_at, with_row, lru_rules, lru_tags}
 
 -- one more way, where the line is not found
 pub pushed_more :
@@ -75,9 +51,6 @@ module _ (first ways : ℕ) where
       ap (take ways) (drop-append-le first u v (omega arith)) ∙ take-append-le ways (drop first u) v (simp length-drop (omega arith))
 
   module _ (f : List ℕ → List ℕ) (kept : (r : List ℕ) → length (f r) ≡ length r) where
-    pub length_with_row : (t : List ℕ) → length (with_row first ways f t) ≡ length t
-    length_with_row t = simp (length-append, kept, length-take, length-drop) (omega arith)
-
     with_row_append : (u v : List ℕ) → first + ways ≤ length u → with_row first ways f (u ++ v) ≡ with_row first ways f u ++ v
     with_row_append u v h =
         let a : take first (u ++ v) ≡ take first u = take-append-le first u v (omega arith) in
@@ -93,7 +66,7 @@ module _ (first ways : ℕ) where
         let u : length (take n t) ≡ n = simp length-take (omega arith) in
         ap (λ (s : List ℕ). take n (with_row first ways f s)) (sym (take-append-drop n t))
         ∙ ap (take n) (with_row_append (take n t) (drop n t) (omega arith))
-        ∙ take_at (with_row first ways f (take n t)) (drop n t) n (length_with_row (take n t) ∙ u)
+        ∙ take_at (with_row first ways f (take n t)) (drop n t) n (length_with_row first ways f kept (take n t) ∙ u)
 
   pub row_told : (n : ℕ) (t : List ℕ) → first + ways ≤ n → n ≤ length t → row_at first ways t ≡ row_at first ways (take n t)
   row_told n t h l =
@@ -119,29 +92,3 @@ module _ (line sets ways a : ℕ) (t : List ℕ) (x first k : ℕ) (marked : x �
   kept_at =
       let d = row_told first ways (sets * ways) t within whole in
       cc
-
--- the mark that was brought to the front is in the row
-has_newest : (x : ℕ) (row : List ℕ) → 0 < length row → has x (newest x row) ≡ true
-has_newest x [] h = absurd (not-suc-le-zero h)
-has_newest x (y ∷ ys) h = ap (λ (b : Bool). cond b true (has x (take (length ys) (without x (y ∷ ys))))) (eq-eqb x x refl)
-
--- a row that was changed, read again
-row_changed :
-    (first ways : ℕ) (f : List ℕ → List ℕ) → ((r : List ℕ) → length (f r) ≡ length r)
-    → (t : List ℕ) → first + ways ≤ length t → row_at first ways (with_row first ways f t) ≡ f (row_at first ways t)
-row_changed first ways f kept t h =
-    let row : length (row_at first ways t) ≡ ways = length-take-le ways (drop first t) (simp length-drop (omega arith)) in
-    ap (take ways) (drop_at (take first t) (f (row_at first ways t) ++ drop ways (drop first t)) first (length-take-le first t (omega arith)))
-    ∙ take_at (f (row_at first ways t)) (drop ways (drop first t)) ways (kept (row_at first ways t) ∙ row)
-
--- a line that was read is kept
-pub comes :
-    (line sets ways a : ℕ) (t : List ℕ) → 0 < sets → 0 < ways → length t ≡ sets * ways
-    → (lru_rules line sets ways).kept a (brought line sets ways a t) ≡ true
-comes line sets ways a t some one whole =
-    let first = set_at line sets a * ways in
-    let x = mark_at line a in
-    let within : first + ways ≤ length t = omega (arith, whole, row_within (set_at line sets a) sets ways (mod-lt (a / line) some)) in
-    let row : length (row_at first ways t) ≡ ways = length-take-le ways (drop first t) (simp length-drop (omega arith)) in
-    ap (has x) (row_changed first ways (newest x) (length_newest x) t within)
-    ∙ has_newest x (row_at first ways t) (omega (arith, row))

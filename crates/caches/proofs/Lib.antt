@@ -1,0 +1,4 @@
+mod Powers
+pub mod Stacking
+mod Tables
+mod Rows
