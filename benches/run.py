@@ -4,7 +4,8 @@
     run.py [PROGRAM]
 
 PROGRAM is the proved program; without it the environment variable
-CIPHERBENCH names it, else it is target/bin/cipherbench. The plain program
+CIPHERBENCH names it, else it is crates/cipherbench/out/cipherbench, where
+`rt run` in that crate leaves it. The plain program
 and the scripts are made in target/bench/. Times are end to end, from the
 start of the process to its exit, with the answers sent to /dev/null.
 """
@@ -80,7 +81,7 @@ def main():
     if len(sys.argv) > 2:
         sys.exit(__doc__.strip())
     proved = Path(sys.argv[1] if len(sys.argv) == 2 else
-                  os.environ.get("CIPHERBENCH") or ROOT / "target" / "bin" / "cipherbench")
+                  os.environ.get("CIPHERBENCH") or ROOT / "crates" / "cipherbench" / "out" / "cipherbench")
     proved = proved.resolve()
     if not os.access(proved, os.X_OK):
         sys.exit(f"no program at {proved}")

@@ -1,4 +1,5 @@
--- Why the laws hold that policies and layers owe. These are lemmas, no definitions: they stand here since an impl can cite no others.
+-- Why the laws hold that policies and layers owe: lemmas, and `pushed`, which only proofs speak of. They stand here since an impl
+-- can cite no others, and no promise rests on them.
 use Rattle.std.specs.Prelude.{◌≡◌, ℕ, zero, suc, ◌+◌, ◌*◌, ◌/◌, ◌<◌, ◌≤◌, Bool, true, false, cond, List, [], ◌∷◌, ◌++◌, length, take, drop, ◌==◌, slice_set, slice_index, refl}
 use Rattle.std.proofs.Common.{ap, ◌∙◌, suc-mul, mul-le-mul_right, mod-lt, not-suc-le-zero, arith}
 use Rattle.std.proofs.lemmas.List.{length-append, length-take, length-drop, length-set, length-replicate, length-take-le, take_at, drop_at, take_all, get_or-set_same}

@@ -2,7 +2,6 @@
 use crate::problem::Problem;
 use answers::buffer::Buffer;
 use answers::step::answer_line;
-use caches::policy::Policy;
 use memory::flat::Flat;
 use piles::pile::Lines as Kept;
 use piles::stack::Stack;

@@ -1,3 +1,3 @@
 pub mod Slots
 pub mod Stacks
-pub mod Using
+pub mod Laws

@@ -2,7 +2,7 @@
 ghost use Rattle.std.specs.Prelude.{◌≡◌, true, false};
 ghost use Rattle.piles.specs.Slots.{slotted};
 ghost use Rattle.caches.specs.Laws.{layer_lawful};
-ghost use Rattle.piles.specs.Using.{either_lawful};
+ghost use Rattle.piles.specs.Laws.{either_lawful};
 ghost use Rattle.std.proofs.Common.{rules};
 
 use caches::layer::Layer;

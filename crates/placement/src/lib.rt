@@ -1,4 +1,5 @@
 // Where a run keeps its words, and why a bench says no.
+
 #![tactic(auto)]
 
 pub mod fault;

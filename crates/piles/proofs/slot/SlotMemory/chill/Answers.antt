@@ -1,6 +1,6 @@
 use Rattle.std.proofs.Common.{◌≡◌}
 use Rattle.memory.specs.Meanings.{Meaning, chilled}
-use Rattle.piles.specs.Using.{when_used}
+use Rattle.piles.proofs.Using.{when_used}
 use Rattle.piles.proofs.slot.SlotMemory.chill.Goals as goal
 
 pub returns-then-self : goal.returns-then-self

@@ -1,7 +1,7 @@
 use Rattle.std.specs.Result.{MatchResult}
 use Rattle.memory.specs.Meanings.{Meaning}
 use Rattle.memory.specs.Calls.{Fetches, Refuses}
-use Rattle.piles.specs.Using.{when_used}
+use Rattle.piles.proofs.Using.{when_used}
 use Rattle.piles.proofs.slot.SlotMemory.fetch.Goals as goal
 
 pub returns-then-self : goal.returns-then-self

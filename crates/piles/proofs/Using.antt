@@ -1,7 +1,6 @@
 -- A slot that is used is its layer.
-use Rattle.std.specs.Prelude.{◌≡◌, ℕ, Bool, true, false}
+use Rattle.std.specs.Prelude.{◌≡◌, ℕ, Bool, true}
 use Rattle.std.proofs.Common.{sym, subst}
-use Rattle.memory.specs.Makes.{Lawful}
 use Rattle.memory.specs.Meanings.{Meaning}
 use Rattle.caches.specs.Policies.{Tags}
 use Rattle.caches.specs.Layers.{layered}
@@ -12,8 +11,3 @@ pub when_used :
     (P : Meaning → Meaning → Type 0) (used : Bool) (p q : Tags) (hit top : ℕ) (m n : Meaning)
     → used ≡ true → P (layered p hit m) (layered q top n) → P (slotted used p hit m) (slotted used q top n)
 when_used P used p q hit top m n e x = subst (λ (b : Bool). P (slotted b p hit m) (slotted b q top n)) (sym e) x
-
-pub either_lawful :
-    (used : Bool) (p : Tags) (hit : ℕ) (m : Meaning) → Lawful (layered p hit m).make → Lawful m.make → Lawful (slotted used p hit m).make
-either_lawful true p hit m layer below = layer
-either_lawful false p hit m layer below = below
