@@ -1,5 +1,6 @@
 -- Rows of a table: pushing step by step, and a row of the told part.
-use Rattle.std.specs.Prelude.{◌≡◌, ℕ, ◌+◌, ◌*◌, ◌<◌, ◌≤◌, Bool, true, false, cond, List, [], ◌∷◌, ◌++◌, length, take, drop, ◌≢◌, slice_index, slice_index_or, slice_set}
+use Rattle.std.specs.Prelude.{◌≡◌, ℕ, ◌+◌, ◌*◌, ◌<◌, ◌≤◌, Bool, true, false, cond, List, [], ◌∷◌, ◌++◌, length, take, drop, ◌≢◌, slice_index, slice_index_or, slice_set, ◌==◌, ◌||◌, refl}
+use Rattle.std.specs.List.{list_any}
 use Rattle.std.proofs.Common.{sym, ap, ◌∙◌, add-one, arith}
 use Rattle.std.proofs.lemmas.List.{append-nil, append_assoc, length-append, length-take, length-drop, take-append-drop, take_at, take_all, drop_all, take-append-le, drop-append-le, drop_more, take_more_set, drop-set-lt, set_split}
 use Rattle.std.proofs.lemmas.Bool.{ne_eqb, eq-eqb}
@@ -35,15 +36,14 @@ pushed_found x c row i h e =
 pub pushed_all : (x c : ℕ) (row : List ℕ) (i : ℕ) → length row ≤ i → row ≡ take i row ++ pushed x c (drop i row)
 pushed_all x c row i h = sym (ap (λ (r : List ℕ). take i row ++ pushed x c r) (drop_all i row h) ∙ append-nil (take i row) ∙ take_all i row h)
 
-module _ (x : ℕ) (row : List ℕ) (i : ℕ) where
-  pub has_found : i < length row → slice_index row i ≡ x → has x (drop i row) ≡ true
-  has_found h e = ap (has x) (drop_more row i 0 h) ∙ ap (λ (b : Bool). cond b true (has x (drop (i + 1) row))) (eq-eqb (slice_index row i) x e)
+-- a row has a number where any of its numbers is that one
+any_step : (x y : ℕ) (ys : List ℕ) (b : Bool) → list_any (λ (z : ℕ). z == x) ys ≡ has x ys → (b || list_any (λ (z : ℕ). z == x) ys) ≡ cond b true (has x ys)
+any_step x y ys true e = refl
+any_step x y ys false e = e
 
-  pub has_more : i < length row → (slice_index row i ≢ x) → has x (drop i row) ≡ has x (drop (i + 1) row)
-  has_more h e = ap (has x) (drop_more row i 0 h) ∙ ap (λ (b : Bool). cond b true (has x (drop (i + 1) row))) (ne_eqb (slice_index row i) x e)
-
-  pub has_none : length row ≤ i → has x (drop i row) ≡ false
-  has_none h = ap (has x) (drop_all i row h)
+pub any_has : (x : ℕ) (row : List ℕ) → list_any (λ (y : ℕ). y == x) row ≡ has x row
+any_has x [] = refl
+any_has x (y ∷ ys) = any_step x y ys (y == x) (any_has x ys)
 
 module _ (first ways : ℕ) where
   pub row_append : (u v : List ℕ) → first + ways ≤ length u → row_at first ways (u ++ v) ≡ row_at first ways u

@@ -2,6 +2,7 @@
 
 #![tactic(auto)]
 
+pub mod cache;
 pub mod choice;
 pub mod direct;
 pub mod geometry;

@@ -8,6 +8,7 @@ use crate::geometry::{Geometry, Held};
 use crate::layer::Layer;
 use crate::policy::Policy;
 use crate::table::empty_table;
+use std::mem;
 
 pub type LruLayer<M> = Layer<Lru, M>;
 
@@ -36,12 +37,7 @@ impl Lru {
 fn holds(row: &[u32], mark: u32) -> bool
     ensures { result ≡ has mark row.now }
 {
-    for kept in row {
-        if *kept == mark {
-            return true;
-        }
-    }
-    false
+    row.contains(&mark)
 }
 
 // Puts a mark in front, and moves the others on, up to where it stood or to the row's end.
@@ -49,9 +45,8 @@ fn promote(row: &mut [u32], mark: u32)
     ensures { row.new ≡ newest mark row.old }
 {
     let mut carried = mark;
-    for way in 0..row.len() {
-        let old = row[way];
-        row[way] = carried;
+    for kept in row.iter_mut() {
+        let old = mem::replace(kept, carried);
         if old == mark {
             return;
         }

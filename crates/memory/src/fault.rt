@@ -2,23 +2,23 @@
 ghost use Rattle.std.specs.Prelude.{◌≡◌};
 ghost use Rattle.memory.specs.Faults.{code};
 
-// Which of the price settings that were given together.
-#[derive(Clone, Copy, Debug)]
+// Which of the price settings that were given together. Its number is the place that a fault tells.
+#[derive(Clone, Copy, Debug, PartialEq, Eq)]
 pub enum Setting {
-    First,
-    Second,
+    First = 1,
+    Second = 2,
 }
 
-// The rule that a geometry breaks.
-#[derive(Clone, Copy, Debug)]
+// The rule that a geometry breaks. Its number is the place that a fault tells.
+#[derive(Clone, Copy, Debug, PartialEq, Eq)]
 pub enum Rule {
-    LineLength,
-    SetCount,
-    WayCount,
-    Product,
+    LineLength = 1,
+    SetCount = 2,
+    WayCount = 3,
+    Product = 4,
 }
 
-#[derive(Clone, Copy, Debug)]
+#[derive(Clone, Copy, Debug, PartialEq, Eq)]
 pub enum MemoryFault {
     // A store was given this many words: none, or more than it can hold.
     WordCount(usize),
@@ -52,12 +52,8 @@ impl MemoryFault {
     {
         match self {
             MemoryFault::WordCount(count) => count,
-            MemoryFault::HighPrice(Setting::First) => 1,
-            MemoryFault::HighPrice(Setting::Second) => 2,
-            MemoryFault::Geometry(Rule::LineLength) => 1,
-            MemoryFault::Geometry(Rule::SetCount) => 2,
-            MemoryFault::Geometry(Rule::WayCount) => 3,
-            MemoryFault::Geometry(Rule::Product) => 4,
+            MemoryFault::HighPrice(setting) => setting as usize,
+            MemoryFault::Geometry(rule) => rule as usize,
             MemoryFault::NotHeld(place) => place,
         }
     }

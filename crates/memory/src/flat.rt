@@ -53,20 +53,19 @@ impl Memory for Flat {
     }
 
     fn peek(&self, address: usize) -> Result<u32, MemoryFault> {
-        if address < self.size() {
-            Ok(self.words[address])
-        } else {
-            Err(MemoryFault::NotHeld(address))
-        }
+        self.words
+            .get(address)
+            .copied()
+            .ok_or(MemoryFault::NotHeld(address))
     }
 
     fn poke(&mut self, address: usize, word: u32) -> Result<(), MemoryFault> {
-        if address < self.size() {
-            self.words[address] = word;
-            Ok(())
-        } else {
-            Err(MemoryFault::NotHeld(address))
-        }
+        let place = self
+            .words
+            .get_mut(address)
+            .ok_or(MemoryFault::NotHeld(address))?;
+        *place = word;
+        Ok(())
     }
 
     fn fetch(&mut self, address: usize) -> Result<(u32, u32), MemoryFault> {

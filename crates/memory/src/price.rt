@@ -57,9 +57,7 @@ impl Prices {
             (λ f. (255 < first → f ≡ HighPrice First) × (first ≤ 255 → (255 < second) × (f ≡ HighPrice Second))) }
     {
         let first = Price::new(first)?;
-        let Ok(second) = Price::new(second) else {
-            return Err(MemoryFault::HighPrice(Setting::Second));
-        };
+        let second = Price::new(second).map_err(|_| MemoryFault::HighPrice(Setting::Second))?;
         Ok(Prices { first, second })
     }
 }

@@ -3,5 +3,5 @@ use Rattle.caches.specs.Laws.{pushed}
 use Rattle.caches.proofs.lru.promote.Given as goal
 
 -- what stands before the way is done; what stands from it on is pushed by the carried line
-abbrev pub invariant-loop-way : goal.invariant-loop-way
-invariant-loop-way l = take l.way l.row ++ pushed l.mark l.carried (drop l.way l.row) ≡ pushed l.mark l.mark l.initial.row
+abbrev pub invariant-loop-kept : goal.invariant-loop-kept
+invariant-loop-kept l = take l.kept-index l.row ++ pushed l.mark l.carried (drop l.kept-index l.row) ≡ pushed l.mark l.mark l.initial.row

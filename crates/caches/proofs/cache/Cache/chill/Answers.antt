@@ -1,5 +1,5 @@
 use Rattle.caches.proofs.Stacking.{chills}
-use Rattle.caches.proofs.layer.Layer.go_cold.Goals as goal
+use Rattle.caches.proofs.cache.Cache.chill.Goals as goal
 
 pub returns : goal.returns
 returns g c =

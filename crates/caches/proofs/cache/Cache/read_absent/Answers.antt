@@ -1,6 +1,6 @@
 use Rattle.std.proofs.Common.{arith}
 use Rattle.caches.proofs.Stacking.{misses}
-use Rattle.caches.proofs.layer.Layer.read_absent.Goals as goal
+use Rattle.caches.proofs.cache.Cache.read_absent.Goals as goal
 
 pub returns : goal.returns
 returns g c =

@@ -1,5 +1,5 @@
 use Rattle.caches.proofs.Stacking.{hits}
-use Rattle.caches.proofs.layer.Layer.read_kept.Goals as goal
+use Rattle.caches.proofs.cache.Cache.read_kept.Goals as goal
 
 pub returns : goal.returns
 returns g c =

@@ -1,6 +1,6 @@
 use Rattle.std.proofs.Common.{arith}
 use Rattle.caches.proofs.Stacking.{writes}
-use Rattle.caches.proofs.layer.Layer.write_through.Goals as goal
+use Rattle.caches.proofs.cache.Cache.store.Goals as goal
 
 pub returns : goal.returns
 returns g c =
