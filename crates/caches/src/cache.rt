@@ -1,6 +1,7 @@
 // What a cache adds to any memory below it, by any policy: what a hit and a miss cost, and what goes below.
 ghost use Rattle.std.specs.Prelude.{◌≡◌, true, false};
 ghost use Rattle.memory.specs.Meanings.{chilled};
+ghost use Rattle.caches.specs.Layers.{through};
 ghost use Rattle.caches.specs.Laid.{atop, keeping, Fetched, Stored};
 
 use crate::geometry::Held;
@@ -20,12 +21,11 @@ pub struct Cache<P> {
 }
 
 impl<P: Policy> Cache<P> {
-    // A cache that keeps what the policy keeps: nothing, where that is new.
-    pub fn new(policy: P, hit: Price) -> Cache<P>
-        ensures policy { result.policy ≡ policy }
-        ensures hit { result.hit ≡ hit }
+    // What a request costs that goes below, where it costs so much.
+    fn through(&self, price: u32) -> u32
+        ensures { result ≡ through self.now.hit.value price }
     {
-        Cache { policy, hit }
+        self.hit.cycles().saturating_add(price).min(HIGHEST_PRICE)
     }
 
     // A read of a line that is kept: the word is only peeked below.
@@ -34,10 +34,9 @@ impl<P: Policy> Cache<P> {
         ensures { Fetched (atop P.Policy.tags self.old (M.Memory.meaning below.now)) at.address
             (atop P.Policy.tags self.new (M.Memory.meaning below.now)) result }
     {
-        let hit = self.hit.cycles();
         let word = below.peek(at.address)?;
         self.policy.touch(at);
-        Ok((word, hit))
+        Ok((word, self.hit.cycles()))
     }
 
     // Any other read: the word is fetched below, and its line is then kept.
@@ -46,10 +45,9 @@ impl<P: Policy> Cache<P> {
         ensures { Fetched (atop P.Policy.tags self.old (M.Memory.meaning below.old)) at.address
             (atop P.Policy.tags self.new (M.Memory.meaning below.new)) result }
     {
-        let hit = self.hit.cycles();
         let (word, price) = below.fetch(at.address)?;
         self.policy.enter(at);
-        Ok((word, hit.saturating_add(price).min(HIGHEST_PRICE)))
+        Ok((word, self.through(price)))
     }
 
     // A read over the memory below.
@@ -80,11 +78,11 @@ impl<P: Policy> Cache<P> {
         ensures { Stored (atop P.Policy.tags self.now (M.Memory.meaning below.old)) address word
             (atop P.Policy.tags self.now (M.Memory.meaning below.new)) result }
     {
-        let hit = self.hit.cycles();
         let price = below.store(address, word)?;
-        Ok(hit.saturating_add(price).min(HIGHEST_PRICE))
+        Ok(self.through(price))
     }
 
+    #[tactic(auto, using(crate::proofs::Stacking::chills))]
     // Keeps no line any more, and the memory below goes cold.
     pub fn chill<M: Memory>(&mut self, below: &mut M)
         ensures { atop P.Policy.tags self.new (M.Memory.meaning below.new)

@@ -1,9 +1,10 @@
--- A slot: a layer over a memory, or the memory itself while the slot is not used.
-use Rattle.std.specs.Prelude.{ℕ, Bool, true, false}
+-- A slot: a cache atop a memory, or the memory itself while the slot is free.
+use Rattle.std.specs.Prelude.{Option, Some, None}
 use Rattle.memory.specs.Meanings.{Meaning}
 use Rattle.caches.specs.Policies.{Tags}
-use Rattle.caches.specs.Layers.{layered}
+use Rattle.caches.specs.Laid.{atop}
+use Rattle.caches.specs.declared.cache.Cache.{Cache}
 
-abbrev pub slotted : Bool → Tags → ℕ → Meaning → Meaning
-slotted true p hit m = layered p hit m
-slotted false p hit m = m
+abbrev pub slotted : {X : Type 0} → (X → Tags) → Option (Cache X) → Meaning → Meaning
+slotted tags (Some c) m = atop tags c m
+slotted tags None m = m

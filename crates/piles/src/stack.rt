@@ -1,18 +1,17 @@
 // Memories that take layers on top at run time: slots over a memory that stays at the bottom.
-ghost use Rattle.std.specs.Prelude.{◌≡◌, ℕ, ◌+◌, if◌then◌else◌, ◌==◌};
+ghost use Rattle.std.specs.Prelude.{◌≡◌, ℕ, ◌+◌, is_none, if◌then◌else◌, ◌==◌};
 ghost use Rattle.piles.specs.Stacks.{Puts};
 
 use crate::slot::Slot;
-use caches::layer::Layer;
+use caches::cache::Cache;
 use caches::policy::Policy;
 use memory::flat::Flat;
 use memory::memory::Memory;
 use memory::price::Price;
 
-// A policy to fill a slot with that is not used.
-pub trait Spare {
-    fn spare() -> Self;
-}
+// A pile takes no layer any more.
+#[derive(Clone, Copy, Debug, PartialEq, Eq)]
+pub struct Full;
 
 // Layers by policies of type P over a memory of type B.
 pub trait Stack<P: Policy, B: Memory>: Memory {
@@ -30,9 +29,9 @@ pub trait Stack<P: Policy, B: Memory>: Memory {
     fn is_full(&self) -> bool
         ensures { result ≡ (room self.now == 0) };
 
-    // One more layer on top; or the pile as it was, where it is full.
-    fn put(self, policy: P, hit: Price) -> Result<Self, Self>
-        ensures { Puts Self.Memory.meaning room self (P.Policy.tags policy) hit.value result };
+    // One more layer on top; a full pile stays as it was.
+    fn put(&mut self, policy: P, hit: Price) -> Result<(), Full>
+        ensures { Puts Self.Memory.meaning room self.old (P.Policy.tags policy) hit.value self.new result };
 }
 
 // A store has no slot.
@@ -49,41 +48,37 @@ impl<P: Policy + Drop> Stack<P, Flat> for Flat {
         true
     }
 
-    fn put(self, _policy: P, _hit: Price) -> Result<Self, Self> {
-        Err(self)
+    fn put(&mut self, _policy: P, _hit: Price) -> Result<(), Full> {
+        Err(Full)
     }
 }
 
-// The lowest slot that is not used takes the layer.
-impl<P: Policy + Spare + Drop, B: Memory, M: Stack<P, B>> Stack<P, B> for Slot<P, M> {
+// The lowest free slot takes the layer.
+impl<P: Policy + Drop, B: Memory, M: Stack<P, B>> Stack<P, B> for Slot<P, M> {
     ghost most = { M.Stack.most + 1 };
 
-    ghost room = { λ s. (if s.used then 0 else M.Stack.room s.layer.below + 1) };
+    ghost room = { λ s. (if is_none s.cache then M.Stack.room s.below + 1 else 0) };
 
     fn base(bottom: B) -> Self {
-        Slot::free(P::spare(), Price::free(), M::base(bottom))
+        Slot {
+            cache: None,
+            below: M::base(bottom),
+        }
     }
 
     fn is_full(&self) -> bool {
-        self.used
+        self.cache.is_some()
     }
 
-    fn put(self, policy: P, hit: Price) -> Result<Self, Self> {
-        if self.used {
-            return Err(self);
+    fn put(&mut self, policy: P, hit: Price) -> Result<(), Full> {
+        if self.is_full() {
+            return Err(Full);
         }
-        let Slot { layer, used: _ } = self;
-        let Layer {
-            policy: spare,
-            hit: free,
-            below,
-        } = layer;
-        if below.is_full() {
-            return Ok(Slot::filled(policy, hit, below));
+        if self.below.is_full() {
+            self.cache = Some(Cache { policy, hit });
+        } else {
+            self.below.put(policy, hit)?;
         }
-        match below.put(policy, hit) {
-            Ok(higher) => Ok(Slot::free(spare, free, higher)),
-            Err(full) => Err(Slot::free(spare, free, full)),
-        }
+        Ok(())
     }
 }

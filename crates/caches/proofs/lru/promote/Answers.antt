@@ -1,6 +1,6 @@
 use Rattle.std.proofs.Common.{sym, ap, ◌∙◌, arith, slice_set}
 use Rattle.caches.specs.Laws.{pushed_is}
-use Rattle.caches.proofs.Rows.{pushed_found, pushed_more, pushed_all}
+use Rattle.caches.proofs.Rows.{pushed_found, pushed_all}
 use Rattle.caches.proofs.lru.promote.Goals as goal
 
 pub returns-then-old-mark : goal.returns-then-old-mark
