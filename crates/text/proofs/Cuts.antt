@@ -1,8 +1,12 @@
 -- How a word is cut off a line, and where the next line begins.
-use Rattle.std.proofs.Common.{◌≡◌, ℕ, suc, ◌+◌, ◌<◌, ◌≤◌, Bool, true, false, eqb, List, [], ◌∷◌, length, take, drop, Some, None, sym, refl, ap, ◌∙◌, subst, inl, inr, add-one, one-add, arith, length-drop}
+use Rattle.std.proofs.Common.{◌≡◌, ℕ, suc, ◌+◌, ◌<◌, ◌≤◌, Bool, true, false, eqb, List, [], ◌∷◌, length, take, drop, Some, None, Option, Bor, sym, refl, ap, ◌∙◌, subst, inl, inr, add-one, one-add, arith, length-drop}
 use Rattle.std.proofs.lemmas.Bool.{cases_Bool}
 use Rattle.std.proofs.lemmas.Bool.Decides.{nat_tests}
+use Rattle.std.proofs.lemmas.List.{take_rest}
+use Rattle.std.proofs.lemmas.List.Sums.{prefix_len-le-length}
 use Rattle.std.specs.List.{prefix_len}
+use Rattle.std.specs.Option.{option_map, MatchOption}
+use Rattle.std.specs.Slice.{IsGetRangeResult}
 use Rattle.text.specs.Bytes.{in_line, blank, ending, in_word}
 use Rattle.text.specs.Lines.{next_line, beyond}
 use Rattle.text.specs.Words.{words_from, words_of, after_blanks, front_word, after_word}
@@ -116,3 +120,15 @@ past_line text rest n n_is l rest_is =
       shorter = omega (arith, ap length rest_is, length-drop (n + 1) text);
       within = beyond_within rest;
     }
+
+-- what is known of what stands past the first line feed, where there may be none
+pub record After (text : List ℕ) (r : Option (Bor (List ℕ))) : Type 0 where
+  pub value : option_map (λ x. x.now) r ≡ next_line text
+  pub shorter : MatchOption r (Unit {0}) (λ rest. (length rest.now < length text) × (beyond (next_line rest.now) ≤ length rest.now))
+
+pub after : (text : List ℕ) (n : ℕ) (r : Option (Bor (List ℕ))) → n ≡ prefix_len in_line text → IsGetRangeResult text (n + 1) (length text) r → After text r
+after text n None n_is h =
+    record { value = sym (no_line_feed text (omega (arith, h.0, n_is, prefix_len-le-length in_line text))); shorter = tt }
+after text n (Some rest) n_is h =
+    let facts = past_line text rest.now n n_is (omega (arith, h.0.0)) (h.0.2 ∙ take_rest text (n + 1)) in
+    record { value = facts.next; shorter = (facts.shorter, facts.within) }

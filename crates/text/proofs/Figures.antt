@@ -1,14 +1,9 @@
 -- How the digits of a word add up to its number, digit by digit.
-use Rattle.std.proofs.Common.{◌≡◌, ℕ, suc, ◌+◌, ◌*◌, ◌^◌, ◌<◌, ◌≤◌, true, false, cond, ltb, List, [], ◌∷◌, length, get_or, drop, IfSome, Some, None, Option, sym, refl, ap, ◌∙◌, subst, ⊎_elim, not-suc-le-zero, mul-le-mul_right, mul_assoc, mul_comm, add-mul, add-one, arith, drop-cons}
+use Rattle.std.proofs.Common.{◌≡◌, ℕ, suc, ◌+◌, ◌*◌, ◌^◌, ◌<◌, ◌≤◌, true, false, cond, ltb, List, [], ◌∷◌, length, get_or, drop, IfSome, Some, None, Option, sym, refl, ap, ◌∙◌, ⊎_elim, mul-le-mul_right, mul_assoc, mul_comm, add-mul, add-one, arith, drop-cons}
 use native.Mathlib.Nat.{pow-zero, pow-succ', pow-le-pow_right}
-use Rattle.std.proofs.lemmas.List.{drop_all}
 use Rattle.std.proofs.lemmas.Bool.{lt-ltb, le-ltb, ltb-true, cond-true, cond-false, cases_Bool}
 use Rattle.std.specs.Char.{digit_value}
 use Rattle.text.specs.Numbers.{number_after, numeral, below}
-
-pub numeral_is : (base : ℕ) (digits : List ℕ) → 0 < length digits → numeral base digits ≡ number_after base 0 digits
-numeral_is base [] h = absurd (not-suc-le-zero h)
-numeral_is base (b ∷ bs) h = refl
 
 -- one digit more: x is the byte at i, and d its value
 pub number_more : (base n x d : ℕ) (digits : List ℕ) (i : ℕ) → i < length digits → x ≡ get_or digits i 0 → (digit_value x < base) × (d ≡ digit_value x)
@@ -17,20 +12,6 @@ number_more base n x d digits i h at_i digit =
     let e : drop i digits ≡ x ∷ drop (suc i) digits = drop-cons digits i 0 h ∙ ap (λ y. y ∷ drop (suc i) digits) (sym at_i) in
     ap (number_after base n) e ∙ cond-true _ _ _ (lt-ltb (digit_value x) base digit.0)
     ∙ ap (λ y. number_after base (n * base + y) (drop (suc i) digits)) (sym digit.1) ∙ ap (λ k. number_after base (n * base + d) (drop k digits)) (sym (add-one i))
-
--- a digit's value by the code's name for it
-pub a_digit : (base x d : ℕ) → d ≡ digit_value x → d < base → (digit_value x < base) × (d ≡ digit_value x)
-a_digit base x d e l = (subst (λ k. k < base) e l, e)
-
--- a byte that is no digit
-pub number_stops : (base n x d : ℕ) (digits : List ℕ) (i : ℕ) → i < length digits → x ≡ get_or digits i 0 → d ≡ digit_value x → base ≤ d
-    → number_after base n (drop i digits) ≡ None
-number_stops base n x d digits i h at_i value large =
-    let e : drop i digits ≡ x ∷ drop (suc i) digits = drop-cons digits i 0 h ∙ ap (λ y. y ∷ drop (suc i) digits) (sym at_i) in
-    ap (number_after base n) e ∙ cond-false _ _ _ (le-ltb (digit_value x) base (subst (λ k. base ≤ k) value large))
-
-pub number_all : (base n : ℕ) (digits : List ℕ) (i : ℕ) → length digits ≤ i → number_after base n (drop i digits) ≡ Some n
-number_all base n digits i h = ap (number_after base n) (drop_all i digits h)
 
 -- digits only add, so a number past the limit stays so
 pub number_over : (base limit n : ℕ) (digits : List ℕ) → 0 < base → limit ≤ n → below limit (number_after base n digits) ≡ None

@@ -5,7 +5,7 @@ ghost use Rattle.std.specs.List.{prefix_len};
 ghost use Rattle.text.specs.Bytes.{belongs};
 
 /// What a byte can be part of.
-#[derive(Clone, Copy)]
+#[derive(Clone, Copy, Debug, PartialEq, Eq)]
 pub enum Class {
     /// A line, which goes on up to a line feed.
     Line,
@@ -33,11 +33,6 @@ impl Class {
         ensures value { result ≡ prefix_len (belongs self) text.now }
         ensures within { result ≤ length text.now }
     {
-        for (i, byte) in text.iter().enumerate() {
-            if !self.has(*byte) {
-                return i;
-            }
-        }
-        text.len()
+        text.iter().take_while(|byte| self.has(**byte)).count()
     }
 }

@@ -2,26 +2,12 @@
 
 ghost use Rattle.std.specs.Prelude.{◌≡◌, ◌^◌, ◌<◌, ◌≤◌, length, IfSome};
 ghost use Rattle.text.specs.Numbers.{numeral, below, decimal_of, hexadecimal_of};
-ghost use Rattle.std.specs.Char.{digit_value};
 
 /// The longest memory word has this many digits.
 const WORD_DIGITS: usize = 8;
 
-/// The value of a digit: 0 to 9, then letters of either case up to 35, and 36 where the byte is no digit.
-fn digit_value(byte: u8) -> usize
-    ensures { result ≡ digit_value byte }
-{
-    let value = match byte {
-        b'0'..=b'9' => byte - b'0',
-        b'a'..=b'z' => byte - b'a' + 10,
-        b'A'..=b'Z' => byte - b'A' + 10,
-        _ => 36,
-    };
-    value as usize
-}
-
 /// The number that a word writes in a base, if each byte is a digit and the number fits.
-fn number(word: &[u8], base: usize) -> Option<usize>
+fn number(word: &[u8], base: u32) -> Option<usize>
     requires low { 2 ≤ base }
     requires high { base ≤ 36 }
     ensures { result ≡ below (2 ^ 64) (numeral base word.now) }
@@ -31,11 +17,10 @@ fn number(word: &[u8], base: usize) -> Option<usize>
     }
     let mut value = 0usize;
     for byte in word {
-        let digit = digit_value(*byte);
-        if digit >= base {
-            return None;
-        }
-        value = value.checked_mul(base)?.checked_add(digit)?;
+        let digit = char::from(*byte).to_digit(base)?;
+        value = value
+            .checked_mul(base as usize)?
+            .checked_add(digit as usize)?;
     }
     Some(value)
 }
@@ -63,8 +48,5 @@ pub fn hexadecimal(word: &[u8]) -> Option<u32>
     if word.len() > WORD_DIGITS {
         return None;
     }
-    match short_hexadecimal(word) {
-        Some(value) => Some(value as u32),
-        None => None,
-    }
+    short_hexadecimal(word).map(|value| value as u32)
 }

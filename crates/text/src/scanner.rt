@@ -36,12 +36,7 @@ fn after_line(text: &[u8]) -> Option<&[u8]>
         (Unit {0})
         (λ rest. (length rest.now < length text.now) × (beyond (next_line rest.now) ≤ length rest.now)) }
 {
-    let end = Class::Line.run(text);
-    if end == text.len() {
-        None
-    } else {
-        Some(&text[end + 1..])
-    }
+    text.get(Class::Line.run(text) + 1..)
 }
 
 impl<'a> Scanner<'a> {
