@@ -39,12 +39,12 @@ policy_name more words = then (one expected.PolicyName policy_of words) more
 
 -- store flat READ WRITE SIZE
 abbrev pub store : Parser Command
-store = store_kind (λ kind. number field.Read (λ r. number field.Write (λ w. number field.Size (λ size. done (Store kind r w size)))))
+store = store_kind (λ kind. number field.Read (λ r. number field.Write (λ w. number field.Size (λ size. done (Store (record { kind = kind; read = r; write = w; size = size }))))))
 
 -- layer direct LINE SETS WAYS HIT, or lru in place of direct
 abbrev pub layer : Parser Command
 layer = policy_name (λ policy. number field.Line (λ line. number field.Sets (λ sets. number field.Ways (λ ways. number field.Hit (λ hit.
-    done (Layer policy line sets ways hit))))))
+    done (Layer (record { policy = policy; line = line; sets = sets; ways = ways; hit = hit })))))))
 
 -- peek A
 abbrev pub peek : Parser Command

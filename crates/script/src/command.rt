@@ -13,42 +13,40 @@ pub enum PolicyName {
     Lru,
 }
 
+/// The store that a command asks for: its prices and its size.
+#[derive(Clone, Copy, PartialEq, Eq, Debug)]
+pub struct NewStore {
+    pub kind: StoreKind,
+    pub read: usize,
+    pub write: usize,
+    pub size: usize,
+}
+
+/// The layer that a command asks for: its policy, its shape and the price of a hit.
+#[derive(Clone, Copy, PartialEq, Eq, Debug)]
+pub struct NewLayer {
+    pub policy: PolicyName,
+    pub line: usize,
+    pub sets: usize,
+    pub ways: usize,
+    pub hit: usize,
+}
+
 /// A command with its numbers.
-#[derive(Clone, Copy)]
+#[derive(Clone, Copy, PartialEq, Eq, Debug)]
 pub enum Command {
-    Store {
-        kind: StoreKind,
-        read: usize,
-        write: usize,
-        size: usize,
-    },
-    Layer {
-        policy: PolicyName,
-        line: usize,
-        sets: usize,
-        ways: usize,
-        hit: usize,
-    },
+    Store(NewStore),
+    Layer(NewLayer),
     Size,
-    Peek {
-        address: usize,
-    },
-    Poke {
-        address: usize,
-        word: u32,
-    },
-    Read {
-        address: usize,
-    },
-    Write {
-        address: usize,
-        word: u32,
-    },
+    Peek { address: usize },
+    Poke { address: usize, word: u32 },
+    Read { address: usize },
+    Write { address: usize, word: u32 },
     Chill,
 }
 
 /// What a number of a command stands for.
-#[derive(Clone, Copy)]
+#[derive(Clone, Copy, PartialEq, Eq, Debug)]
 pub enum Field {
     Read,
     Write,
@@ -61,7 +59,7 @@ pub enum Field {
 }
 
 /// What a line should have had where it went wrong.
-#[derive(Clone, Copy)]
+#[derive(Clone, Copy, PartialEq, Eq, Debug)]
 pub enum Expected {
     CommandName,
     StoreKind,

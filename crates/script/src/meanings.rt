@@ -46,11 +46,7 @@ impl FromWord for StoreKind {
     ghost meaning = { kind_of };
 
     fn from_word(word: &[u8]) -> Option<StoreKind> {
-        if is(word, b"flat") {
-            Some(StoreKind::Flat)
-        } else {
-            None
-        }
+        is(word, b"flat").then_some(StoreKind::Flat)
     }
 }
 

@@ -3,9 +3,12 @@
 ghost use Rattle.script.specs.Grammar as grammar;
 ghost use Rattle.script.specs.Grammar.{command_of};
 ghost use Rattle.script.specs.Parsers.{told, told_with, unread, one, SameLine};
+ghost use Rattle.script.specs.declared.command.Expected.TheVariants as expected;
+ghost use Rattle.script.specs.declared.command.Field.TheVariants as field;
 ghost use Rattle.std.specs.Prelude.{◌≡◌};
+ghost use Rattle.text.specs.Numbers.{decimal_of, hexadecimal_of};
 
-use crate::command::{Command, Expected, Field, Mistake};
+use crate::command::{Command, Expected, Field, Mistake, NewLayer, NewStore};
 use crate::meanings::{FromWord, is};
 use text::scanner::Scanner;
 
@@ -15,11 +18,9 @@ fn take<'a, T: FromWord>(words: &mut Scanner<'a>, expected: Expected) -> Result<
     ensures line { SameLine words.old words.new }
 {
     let found = words.next_word();
-    let value = match found {
-        Some(word) => T::from_word(word),
-        None => None,
-    };
-    value.ok_or(Mistake { expected, found })
+    found
+        .and_then(|word| T::from_word(word))
+        .ok_or(Mistake { expected, found })
 }
 
 /// The rest of `store flat READ WRITE SIZE`.
@@ -31,12 +32,12 @@ fn store<'a>(words: &mut Scanner<'a>) -> Result<Command, Mistake<'a>>
     let read = take(words, Expected::Number(Field::Read))?;
     let write = take(words, Expected::Number(Field::Write))?;
     let size = take(words, Expected::Number(Field::Size))?;
-    Ok(Command::Store {
+    Ok(Command::Store(NewStore {
         kind,
         read,
         write,
         size,
-    })
+    }))
 }
 
 /// The rest of `layer POLICY LINE SETS WAYS HIT`.
@@ -49,51 +50,31 @@ fn layer<'a>(words: &mut Scanner<'a>) -> Result<Command, Mistake<'a>>
     let sets = take(words, Expected::Number(Field::Sets))?;
     let ways = take(words, Expected::Number(Field::Ways))?;
     let hit = take(words, Expected::Number(Field::Hit))?;
-    Ok(Command::Layer {
+    Ok(Command::Layer(NewLayer {
         policy,
         line,
         sets,
         ways,
         hit,
-    })
+    }))
 }
 
-/// The rest of `peek A`.
-fn peek<'a>(words: &mut Scanner<'a>) -> Result<Command, Mistake<'a>>
-    ensures read { told_with result (unread words.new) ≡ grammar.peek (unread words.old) }
+/// The address that follows a name.
+fn address<'a>(words: &mut Scanner<'a>) -> Result<usize, Mistake<'a>>
+    ensures read { told_with result (unread words.new)
+        ≡ one (expected.Number field.Address) decimal_of (unread words.old) }
     ensures line { SameLine words.old words.new }
 {
-    let address = take(words, Expected::Number(Field::Address))?;
-    Ok(Command::Peek { address })
+    take(words, Expected::Number(Field::Address))
 }
 
-/// The rest of `poke A WORD`.
-fn poke<'a>(words: &mut Scanner<'a>) -> Result<Command, Mistake<'a>>
-    ensures read { told_with result (unread words.new) ≡ grammar.poke (unread words.old) }
+/// The memory word that follows an address.
+fn memory_word<'a>(words: &mut Scanner<'a>) -> Result<u32, Mistake<'a>>
+    ensures read { told_with result (unread words.new)
+        ≡ one expected.MemoryWord hexadecimal_of (unread words.old) }
     ensures line { SameLine words.old words.new }
 {
-    let address = take(words, Expected::Number(Field::Address))?;
-    let word = take(words, Expected::MemoryWord)?;
-    Ok(Command::Poke { address, word })
-}
-
-/// The rest of `read A`.
-fn read<'a>(words: &mut Scanner<'a>) -> Result<Command, Mistake<'a>>
-    ensures read { told_with result (unread words.new) ≡ grammar.read (unread words.old) }
-    ensures line { SameLine words.old words.new }
-{
-    let address = take(words, Expected::Number(Field::Address))?;
-    Ok(Command::Read { address })
-}
-
-/// The rest of `write A WORD`.
-fn write<'a>(words: &mut Scanner<'a>) -> Result<Command, Mistake<'a>>
-    ensures read { told_with result (unread words.new) ≡ grammar.write (unread words.old) }
-    ensures line { SameLine words.old words.new }
-{
-    let address = take(words, Expected::Number(Field::Address))?;
-    let word = take(words, Expected::MemoryWord)?;
-    Ok(Command::Write { address, word })
+    take(words, Expected::MemoryWord)
 }
 
 /// The command of a name, with the words that follow it.
@@ -109,13 +90,23 @@ fn named<'a>(name: &'a [u8], words: &mut Scanner<'a>) -> Result<Command, Mistake
     } else if is(name, b"size") {
         Ok(Command::Size)
     } else if is(name, b"peek") {
-        peek(words)
+        Ok(Command::Peek {
+            address: address(words)?,
+        })
     } else if is(name, b"poke") {
-        poke(words)
+        Ok(Command::Poke {
+            address: address(words)?,
+            word: memory_word(words)?,
+        })
     } else if is(name, b"read") {
-        read(words)
+        Ok(Command::Read {
+            address: address(words)?,
+        })
     } else if is(name, b"write") {
-        write(words)
+        Ok(Command::Write {
+            address: address(words)?,
+            word: memory_word(words)?,
+        })
     } else if is(name, b"chill") {
         Ok(Command::Chill)
     } else {
