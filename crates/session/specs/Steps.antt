@@ -7,7 +7,8 @@ use Rattle.memory.specs.Calls.{Refuses}
 use Rattle.caches.specs.Layers.{layered}
 use Rattle.script.specs.declared.command.Command.{Command}
 use Rattle.script.specs.declared.command.Command.TheVariants as command
-use Rattle.script.specs.declared.command.PolicyName.{PolicyName}
+use Rattle.script.specs.declared.command.NewLayer.{NewLayer}
+use Rattle.script.specs.declared.command.NewStore.{NewStore}
 use Rattle.session.specs.Making.{Enough, StoreFault, new_store, Shaped, LayerFault, new_tags}
 use Rattle.session.specs.declared.reply.Reply.{Reply}
 use Rattle.session.specs.declared.reply.Reply.TheVariants.{Done, Size, Word, Read, Written}
@@ -56,41 +57,41 @@ Stood P None = ⊥
 Stood P (Some t) = P t
 
 -- why no store was made
-abbrev pub NoStore : ℕ → ℕ → ℕ → Stop → Type 0
-NoStore reads writes size (Refused f) = StoreFault reads writes size f
-NoStore reads writes size NoPile = ⊥
-NoStore reads writes size TooManyLayers = ⊥
-NoStore reads writes size NoMemory = Enough size × (reads ≤ 255) × (writes ≤ 255)
+abbrev pub NoStore : NewStore → Stop → Type 0
+NoStore s (Refused f) = StoreFault s.read s.write s.size f
+NoStore s NoPile = ⊥
+NoStore s TooManyLayers = ⊥
+NoStore s NoMemory = Enough s.size × (s.read ≤ 255) × (s.write ≤ 255)
 
 -- by what a pile means, for how many layers it has room, and for how many a new one has
 module _ {X : Type 0} (means : X → Meaning) (room : X → ℕ) (most : ℕ) where
   -- a new store in place of the pile there was
-  abbrev pub StoreMade : ℕ → ℕ → ℕ → Option X → Option X → Result Reply Stop → Type 0
-  StoreMade reads writes size before after r =
+  abbrev pub StoreMade : NewStore → Option X → Option X → Result Reply Stop → Type 0
+  StoreMade s before after r =
       MatchResult r
-      (λ y. (y ≡ Done) × Enough size × (reads ≤ 255) × (writes ≤ 255) × Stood (λ t. (means t ≡ new_store reads writes size) × (room t ≡ most)) after)
-      (λ s. (after ≡ before) × NoStore reads writes size s)
+      (λ y. (y ≡ Done) × Enough s.size × (s.read ≤ 255) × (s.write ≤ 255) × Stood (λ t. (means t ≡ new_store s.read s.write s.size) × (room t ≡ most)) after)
+      (λ stop. (after ≡ before) × NoStore s stop)
 
   -- why no layer was put on the pile t
-  abbrev pub NoLayer : ℕ → ℕ → ℕ → ℕ → X → Stop → Type 0
-  NoLayer line sets ways hit t (Refused f) = (0 < room t) × LayerFault line sets ways hit f
-  NoLayer line sets ways hit t NoPile = ⊥
-  NoLayer line sets ways hit t TooManyLayers = room t ≡ 0
-  NoLayer line sets ways hit t NoMemory = ⊥
+  abbrev pub NoLayer : NewLayer → X → Stop → Type 0
+  NoLayer l t (Refused f) = (0 < room t) × LayerFault l.line l.sets l.ways l.hit f
+  NoLayer l t NoPile = ⊥
+  NoLayer l t TooManyLayers = room t ≡ 0
+  NoLayer l t NoMemory = ⊥
 
   -- a new layer on top of the pile
-  abbrev pub LayerMade : PolicyName → ℕ → ℕ → ℕ → ℕ → Option X → Option X → Result Reply Stop → Type 0
-  LayerMade policy line sets ways hit None after r = (r ≡ Err NoPile) × (after ≡ None)
-  LayerMade policy line sets ways hit (Some t) after r =
+  abbrev pub LayerMade : NewLayer → Option X → Option X → Result Reply Stop → Type 0
+  LayerMade l None after r = (r ≡ Err NoPile) × (after ≡ None)
+  LayerMade l (Some t) after r =
       MatchResult r
-      (λ y. (y ≡ Done) × (hit ≤ 255) × Shaped line sets ways
-      × Stood (λ u. (means u ≡ layered (new_tags policy line sets ways) hit (means t)) × (room u + 1 ≡ room t)) after)
-      (λ s. (after ≡ Some t) × NoLayer line sets ways hit t s)
+      (λ y. (y ≡ Done) × (l.hit ≤ 255) × Shaped l.line l.sets l.ways
+      × Stood (λ u. (means u ≡ layered (new_tags l.policy l.line l.sets l.ways) l.hit (means t)) × (room u + 1 ≡ room t)) after)
+      (λ stop. (after ≡ Some t) × NoLayer l t stop)
 
   -- what a command does to the pile there is, and what comes of it
   abbrev pub Executed : Command → Option X → Option X → Result Reply Stop → Type 0
-  Executed (command.Store kind reads writes size) = StoreMade reads writes size
-  Executed (command.Layer policy line sets ways hit) = LayerMade policy line sets ways hit
+  Executed (command.Store s) = StoreMade s
+  Executed (command.Layer l) = LayerMade l
   Executed command.Size = OnPile means Sized
   Executed (command.Peek a) = OnPile means (Peeked a)
   Executed (command.Poke a w) = OnPile means (Poked a w)

@@ -1,12 +1,13 @@
 // What comes of a command.
 ghost use Rattle.std.specs.Prelude.{◌≡◌};
-ghost use Rattle.session.specs.declared.reply.Stop.TheVariants.{Refused, NoMemory};
+ghost use Rattle.session.specs.declared.reply.Stop.TheVariants.{Refused, TooManyLayers, NoMemory};
 
 use memory::fault::MemoryFault;
+use piles::stack::Full;
 use std::alloc::AllocError;
 
 // The answer of a command that was done.
-#[derive(Clone, Copy)]
+#[derive(Clone, Copy, Debug, PartialEq, Eq)]
 pub enum Reply {
     Done,
     Size(usize),
@@ -16,7 +17,7 @@ pub enum Reply {
 }
 
 // Why a command was not done. After a refusal the script goes on; after anything else it can't.
-#[derive(Clone, Copy)]
+#[derive(Clone, Copy, Debug, PartialEq, Eq)]
 pub enum Stop {
     Refused(MemoryFault),
     NoPile,
@@ -29,6 +30,14 @@ impl From<MemoryFault> for Stop {
 
     fn from(fault: MemoryFault) -> Stop {
         Stop::Refused(fault)
+    }
+}
+
+impl From<Full> for Stop {
+    ghost from_gives = { λ _ r. r ≡ TooManyLayers };
+
+    fn from(_error: Full) -> Stop {
+        Stop::TooManyLayers
     }
 }
 

@@ -10,7 +10,7 @@ use memory::memory::Memory;
 use memory::price::Price;
 use piles::pile::Lines;
 use piles::stack::Stack;
-use script::command::{Command, PolicyName};
+use script::command::{Command, NewLayer, NewStore};
 use std::alloc::Global;
 
 // The pile that the script made last, if any.
@@ -32,19 +32,8 @@ impl<T: Stack<Lines, Flat> + Drop> Session<T> {
         ensures { Executed T.Memory.meaning T.Stack.room T.Stack.most command self.old.pile self.new.pile result }
     {
         match command {
-            Command::Store {
-                kind: _,
-                read,
-                write,
-                size,
-            } => self.store(heap, read, write, size),
-            Command::Layer {
-                policy,
-                line,
-                sets,
-                ways,
-                hit,
-            } => self.layer(policy, line, sets, ways, hit),
+            Command::Store(new) => self.store(heap, new),
+            Command::Layer(new) => self.layer(new),
             Command::Size => self.size(),
             Command::Peek { address } => self.peek(address),
             Command::Poke { address, word } => self.poke(address, word),
@@ -54,61 +43,45 @@ impl<T: Stack<Lines, Flat> + Drop> Session<T> {
         }
     }
 
-    fn store(&mut self, heap: Global, read: usize, write: usize, size: usize) -> Result<Reply, Stop>
-        ensures { StoreMade T.Memory.meaning T.Stack.room T.Stack.most read write size self.old.pile self.new.pile result }
+    fn store(&mut self, heap: Global, new: NewStore) -> Result<Reply, Stop>
+        ensures { StoreMade T.Memory.meaning T.Stack.room T.Stack.most new self.old.pile self.new.pile result }
     {
-        let store = zeroed_store(heap, read, write, size)?;
+        let store = zeroed_store(heap, new)?;
         self.pile = Some(T::base(store));
         Ok(Reply::Done)
     }
 
-    fn layer(
-        &mut self,
-        policy: PolicyName,
-        line: usize,
-        sets: usize,
-        ways: usize,
-        hit: usize,
-    ) -> Result<Reply, Stop>
-        ensures { LayerMade T.Memory.meaning T.Stack.room T.Stack.most policy line sets ways hit self.old.pile self.new.pile result }
+    fn layer(&mut self, new: NewLayer) -> Result<Reply, Stop>
+        ensures { LayerMade T.Memory.meaning T.Stack.room T.Stack.most new self.old.pile self.new.pile result }
     {
-        match &self.pile {
-            None => return Err(Stop::NoPile),
-            Some(pile) => {
-                if pile.is_full() {
-                    return Err(Stop::TooManyLayers);
-                }
-            }
+        let pile = self.pile.as_mut().ok_or(Stop::NoPile)?;
+        if pile.is_full() {
+            return Err(Stop::TooManyLayers);
         }
-        let hit = Price::new(hit)?;
-        let geometry = Geometry::new(line, sets, ways)?;
-        self.raise(policy, geometry, hit)
+        let hit = Price::new(new.hit)?;
+        let geometry = Geometry::new(new.line, new.sets, new.ways)?;
+        put_layer(pile, new.policy, geometry, hit)?;
+        Ok(Reply::Done)
     }
 
     fn size(&mut self) -> Result<Reply, Stop>
         ensures { OnPile T.Memory.meaning Sized self.old.pile self.new.pile result }
     {
-        let Some(pile) = &self.pile else {
-            return Err(Stop::NoPile);
-        };
+        let pile = self.pile.as_ref().ok_or(Stop::NoPile)?;
         Ok(Reply::Size(pile.size()))
     }
 
     fn peek(&mut self, address: usize) -> Result<Reply, Stop>
         ensures { OnPile T.Memory.meaning (Peeked address) self.old.pile self.new.pile result }
     {
-        let Some(pile) = &self.pile else {
-            return Err(Stop::NoPile);
-        };
+        let pile = self.pile.as_ref().ok_or(Stop::NoPile)?;
         Ok(Reply::Word(pile.peek(address)?))
     }
 
     fn poke(&mut self, address: usize, word: u32) -> Result<Reply, Stop>
         ensures { OnPile T.Memory.meaning (Poked address word) self.old.pile self.new.pile result }
     {
-        let Some(pile) = &mut self.pile else {
-            return Err(Stop::NoPile);
-        };
+        let pile = self.pile.as_mut().ok_or(Stop::NoPile)?;
         pile.poke(address, word)?;
         Ok(Reply::Done)
     }
@@ -116,9 +89,7 @@ impl<T: Stack<Lines, Flat> + Drop> Session<T> {
     fn read(&mut self, address: usize) -> Result<Reply, Stop>
         ensures { OnPile T.Memory.meaning (Fetched address) self.old.pile self.new.pile result }
     {
-        let Some(pile) = &mut self.pile else {
-            return Err(Stop::NoPile);
-        };
+        let pile = self.pile.as_mut().ok_or(Stop::NoPile)?;
         let (word, price) = pile.fetch(address)?;
         Ok(Reply::Read(word, price))
     }
@@ -126,39 +97,15 @@ impl<T: Stack<Lines, Flat> + Drop> Session<T> {
     fn write(&mut self, address: usize, word: u32) -> Result<Reply, Stop>
         ensures { OnPile T.Memory.meaning (Stored address word) self.old.pile self.new.pile result }
     {
-        let Some(pile) = &mut self.pile else {
-            return Err(Stop::NoPile);
-        };
+        let pile = self.pile.as_mut().ok_or(Stop::NoPile)?;
         Ok(Reply::Written(pile.store(address, word)?))
     }
 
     fn chill(&mut self) -> Result<Reply, Stop>
         ensures { OnPile T.Memory.meaning Chilled self.old.pile self.new.pile result }
     {
-        let Some(pile) = &mut self.pile else {
-            return Err(Stop::NoPile);
-        };
+        let pile = self.pile.as_mut().ok_or(Stop::NoPile)?;
         pile.chill();
         Ok(Reply::Done)
-    }
-
-    // A layer of checked numbers on top.
-    fn raise(&mut self, policy: PolicyName, geometry: Geometry, hit: Price) -> Result<Reply, Stop>
-        ensures { LayerMade T.Memory.meaning T.Stack.room T.Stack.most policy geometry.line geometry.sets geometry.ways hit.value
-            self.old.pile self.new.pile result }
-    {
-        let Some(pile) = self.pile.take() else {
-            return Err(Stop::NoPile);
-        };
-        match put_layer(pile, policy, geometry, hit) {
-            Ok(higher) => {
-                self.pile = Some(higher);
-                Ok(Reply::Done)
-            }
-            Err(same) => {
-                self.pile = Some(same);
-                Err(Stop::TooManyLayers)
-            }
-        }
     }
 }

@@ -5,7 +5,7 @@ use Rattle.session.proofs.making.zeroed_store.Goals as goal
 
 pub returns : goal.returns
 returns c =
-    let size = c.args.size in
+    let size = c.args.new.size in
     let enough = c.in_ok-check_word_count.ensures in
     let prices = c.in_ok-prices.prices in
     let cheap = c.in_ok-prices.ensures in
@@ -19,5 +19,5 @@ returns c =
       c.new-2.ensures
           ∙ ap (λ (ws : List ℕ). flat_meaning ws prices.first.value prices.second.value) zeros
           ∙ ap (λ (x : ℕ). flat_meaning (replicate size 0) x prices.second.value) cheap.2
-          ∙ ap (λ (x : ℕ). flat_meaning (replicate size 0) c.args.read x) cheap.3,
+          ∙ ap (λ (x : ℕ). flat_meaning (replicate size 0) c.args.new.read x) cheap.3,
     )
