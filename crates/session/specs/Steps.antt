@@ -13,14 +13,14 @@ use Rattle.session.specs.Making.{Enough, StoreFault, new_store, Shaped, LayerFau
 use Rattle.session.specs.declared.reply.Reply.{Reply}
 use Rattle.session.specs.declared.reply.Reply.TheVariants.{Done, Size, Word, Read, Written}
 use Rattle.session.specs.declared.reply.Stop.{Stop}
-use Rattle.session.specs.declared.reply.Stop.TheVariants.{Refused, NoPile, TooManyLayers, NoMemory}
+use Rattle.session.specs.declared.reply.End.{End}
+use Rattle.session.specs.declared.reply.End.TheVariants.{NoPile, TooManyLayers, NoMemory}
+use Rattle.session.specs.declared.reply.Stop.TheVariants.{Refused, Ended}
 
 -- a command was refused by a fault of which F holds
 abbrev pub Refusal : (MemoryFault → Type 0) → Stop → Type 0
 Refusal F (Refused f) = F f
-Refusal F NoPile = ⊥
-Refusal F TooManyLayers = ⊥
-Refusal F NoMemory = ⊥
+Refusal F (Ended e) = ⊥
 
 -- what a call does to a memory m, which it leaves as n
 abbrev pub Sized : Meaning → Meaning → Result Reply Stop → Type 0
@@ -47,7 +47,7 @@ Chilled m n r = (r ≡ Ok Done) × (n ≡ chilled m)
 
 -- a call on the pile, by what it means; with no pile there is none to call
 abbrev pub OnPile : {X : Type 0} → (X → Meaning) → (Meaning → Meaning → Result Reply Stop → Type 0) → Option X → Option X → Result Reply Stop → Type 0
-OnPile means C None after r = (r ≡ Err NoPile) × (after ≡ None)
+OnPile means C None after r = (r ≡ Err (Ended NoPile)) × (after ≡ None)
 OnPile means C (Some t) None r = ⊥
 OnPile means C (Some t) (Some u) r = C (means t) (means u) r
 
@@ -59,9 +59,9 @@ Stood P (Some t) = P t
 -- why no store was made
 abbrev pub NoStore : NewStore → Stop → Type 0
 NoStore s (Refused f) = StoreFault s.read s.write s.size f
-NoStore s NoPile = ⊥
-NoStore s TooManyLayers = ⊥
-NoStore s NoMemory = Enough s.size × (s.read ≤ 255) × (s.write ≤ 255)
+NoStore s (Ended NoPile) = ⊥
+NoStore s (Ended TooManyLayers) = ⊥
+NoStore s (Ended NoMemory) = Enough s.size × (s.read ≤ 255) × (s.write ≤ 255)
 
 -- by what a pile means, for how many layers it has room, and for how many a new one has
 module _ {X : Type 0} (means : X → Meaning) (room : X → ℕ) (most : ℕ) where
@@ -75,13 +75,13 @@ module _ {X : Type 0} (means : X → Meaning) (room : X → ℕ) (most : ℕ) wh
   -- why no layer was put on the pile t
   abbrev pub NoLayer : NewLayer → X → Stop → Type 0
   NoLayer l t (Refused f) = (0 < room t) × LayerFault l.line l.sets l.ways l.hit f
-  NoLayer l t NoPile = ⊥
-  NoLayer l t TooManyLayers = room t ≡ 0
-  NoLayer l t NoMemory = ⊥
+  NoLayer l t (Ended NoPile) = ⊥
+  NoLayer l t (Ended TooManyLayers) = room t ≡ 0
+  NoLayer l t (Ended NoMemory) = ⊥
 
   -- a new layer on top of the pile
   abbrev pub LayerMade : NewLayer → Option X → Option X → Result Reply Stop → Type 0
-  LayerMade l None after r = (r ≡ Err NoPile) × (after ≡ None)
+  LayerMade l None after r = (r ≡ Err (Ended NoPile)) × (after ≡ None)
   LayerMade l (Some t) after r =
       MatchResult r
       (λ y. (y ≡ Done) × (l.hit ≤ 255) × Shaped l.line l.sets l.ways

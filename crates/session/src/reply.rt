@@ -1,6 +1,7 @@
 // What comes of a command.
 ghost use Rattle.std.specs.Prelude.{◌≡◌};
-ghost use Rattle.session.specs.declared.reply.Stop.TheVariants.{Refused, TooManyLayers, NoMemory};
+ghost use Rattle.session.specs.declared.reply.End.TheVariants.{TooManyLayers, NoMemory};
+ghost use Rattle.session.specs.declared.reply.Stop.TheVariants.{Refused, Ended};
 
 use memory::fault::MemoryFault;
 use piles::stack::Full;
@@ -16,13 +17,22 @@ pub enum Reply {
     Written(u32),
 }
 
-// Why a command was not done. After a refusal the script goes on; after anything else it can't.
+// Why a script can't go on.
+#[derive(Clone, Copy, Debug, PartialEq, Eq)]
+pub enum End {
+    // There is no pile yet.
+    NoPile,
+    // The pile has as many layers as it takes.
+    TooManyLayers,
+    // The machine has no memory left.
+    NoMemory,
+}
+
+// Why a command was not done. After a refusal the script goes on.
 #[derive(Clone, Copy, Debug, PartialEq, Eq)]
 pub enum Stop {
     Refused(MemoryFault),
-    NoPile,
-    TooManyLayers,
-    NoMemory,
+    Ended(End),
 }
 
 impl From<MemoryFault> for Stop {
@@ -33,18 +43,26 @@ impl From<MemoryFault> for Stop {
     }
 }
 
+impl From<End> for Stop {
+    ghost from_gives = { λ e r. r ≡ Ended e };
+
+    fn from(end: End) -> Stop {
+        Stop::Ended(end)
+    }
+}
+
 impl From<Full> for Stop {
-    ghost from_gives = { λ _ r. r ≡ TooManyLayers };
+    ghost from_gives = { λ _ r. r ≡ Ended TooManyLayers };
 
     fn from(_error: Full) -> Stop {
-        Stop::TooManyLayers
+        Stop::Ended(End::TooManyLayers)
     }
 }
 
 impl From<AllocError> for Stop {
-    ghost from_gives = { λ _ r. r ≡ NoMemory };
+    ghost from_gives = { λ _ r. r ≡ Ended NoMemory };
 
     fn from(_error: AllocError) -> Stop {
-        Stop::NoMemory
+        Stop::Ended(End::NoMemory)
     }
 }

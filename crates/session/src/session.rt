@@ -3,7 +3,7 @@ ghost use Rattle.std.specs.Prelude.{◌≡◌, None};
 ghost use Rattle.session.specs.Steps.{OnPile, Sized, Peeked, Poked, Fetched, Stored, Chilled, StoreMade, LayerMade, Executed};
 
 use crate::making::{put_layer, zeroed_store};
-use crate::reply::{Reply, Stop};
+use crate::reply::{End, Reply, Stop};
 use caches::geometry::Geometry;
 use memory::flat::Flat;
 use memory::memory::Memory;
@@ -54,9 +54,9 @@ impl<T: Stack<Lines, Flat> + Drop> Session<T> {
     fn layer(&mut self, new: NewLayer) -> Result<Reply, Stop>
         ensures { LayerMade T.Memory.meaning T.Stack.room T.Stack.most new self.old.pile self.new.pile result }
     {
-        let pile = self.pile.as_mut().ok_or(Stop::NoPile)?;
+        let pile = self.pile.as_mut().ok_or(End::NoPile)?;
         if pile.is_full() {
-            return Err(Stop::TooManyLayers);
+            return Err(End::TooManyLayers.into());
         }
         let hit = Price::new(new.hit)?;
         let geometry = Geometry::new(new.line, new.sets, new.ways)?;
@@ -67,21 +67,21 @@ impl<T: Stack<Lines, Flat> + Drop> Session<T> {
     fn size(&mut self) -> Result<Reply, Stop>
         ensures { OnPile T.Memory.meaning Sized self.old.pile self.new.pile result }
     {
-        let pile = self.pile.as_ref().ok_or(Stop::NoPile)?;
+        let pile = self.pile.as_ref().ok_or(End::NoPile)?;
         Ok(Reply::Size(pile.size()))
     }
 
     fn peek(&mut self, address: usize) -> Result<Reply, Stop>
         ensures { OnPile T.Memory.meaning (Peeked address) self.old.pile self.new.pile result }
     {
-        let pile = self.pile.as_ref().ok_or(Stop::NoPile)?;
+        let pile = self.pile.as_ref().ok_or(End::NoPile)?;
         Ok(Reply::Word(pile.peek(address)?))
     }
 
     fn poke(&mut self, address: usize, word: u32) -> Result<Reply, Stop>
         ensures { OnPile T.Memory.meaning (Poked address word) self.old.pile self.new.pile result }
     {
-        let pile = self.pile.as_mut().ok_or(Stop::NoPile)?;
+        let pile = self.pile.as_mut().ok_or(End::NoPile)?;
         pile.poke(address, word)?;
         Ok(Reply::Done)
     }
@@ -89,7 +89,7 @@ impl<T: Stack<Lines, Flat> + Drop> Session<T> {
     fn read(&mut self, address: usize) -> Result<Reply, Stop>
         ensures { OnPile T.Memory.meaning (Fetched address) self.old.pile self.new.pile result }
     {
-        let pile = self.pile.as_mut().ok_or(Stop::NoPile)?;
+        let pile = self.pile.as_mut().ok_or(End::NoPile)?;
         let (word, price) = pile.fetch(address)?;
         Ok(Reply::Read(word, price))
     }
@@ -97,14 +97,14 @@ impl<T: Stack<Lines, Flat> + Drop> Session<T> {
     fn write(&mut self, address: usize, word: u32) -> Result<Reply, Stop>
         ensures { OnPile T.Memory.meaning (Stored address word) self.old.pile self.new.pile result }
     {
-        let pile = self.pile.as_mut().ok_or(Stop::NoPile)?;
+        let pile = self.pile.as_mut().ok_or(End::NoPile)?;
         Ok(Reply::Written(pile.store(address, word)?))
     }
 
     fn chill(&mut self) -> Result<Reply, Stop>
         ensures { OnPile T.Memory.meaning Chilled self.old.pile self.new.pile result }
     {
-        let pile = self.pile.as_mut().ok_or(Stop::NoPile)?;
+        let pile = self.pile.as_mut().ok_or(End::NoPile)?;
         pile.chill();
         Ok(Reply::Done)
     }
