@@ -10,8 +10,8 @@ use Rattle.answers.specs.Digits.{word_digits}
 
 -- a command's name, with which its answer begins
 abbrev pub name_of : Command → List ℕ
-name_of (command.Store kind reads writes size) = codes "store: "
-name_of (command.Layer policy line sets ways hit) = codes "layer: "
+name_of (command.Store s) = codes "store: "
+name_of (command.Layer l) = codes "layer: "
 name_of command.Size = codes "size: "
 name_of (command.Peek a) = codes "peek: "
 name_of (command.Poke a w) = codes "poke: "

@@ -1,7 +1,6 @@
 -- What a buffer holds.
-use Rattle.std.specs.Prelude.{ℕ, List, take, vec_items}
+use Rattle.std.specs.Prelude.{ℕ, List, vec_items}
 use Rattle.answers.specs.declared.buffer.Buffer.{Buffer}
 
--- the bytes that are used
 abbrev pub held : Buffer → List ℕ
-held b = take b.used (vec_items b.bytes)
+held b = vec_items b.bytes

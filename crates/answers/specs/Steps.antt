@@ -4,16 +4,17 @@ use Rattle.memory.specs.Meanings.{Meaning}
 use Rattle.script.specs.declared.command.Command.{Command}
 use Rattle.script.specs.Parsers.{Wrong, wrong_of}
 use Rattle.session.specs.declared.reply.Reply.{Reply}
+use Rattle.session.specs.declared.reply.End.TheVariants.{NoMemory}
 use Rattle.session.specs.declared.reply.Stop.{Stop}
 use Rattle.session.specs.declared.reply.Stop.TheVariants as stop
 use Rattle.session.specs.Steps.{Executed}
 use Rattle.answers.specs.declared.halt.Halt.{Halt}
-use Rattle.answers.specs.declared.halt.Halt.TheVariants.{Mistake, NoPile, TooManyLayers, NoMemory}
+use Rattle.answers.specs.declared.halt.Halt.TheVariants.{Mistake, Ended}
 use Rattle.answers.specs.Answers.{answer_text, reply_text, refusal_text}
 
 -- one line more
 abbrev pub AnswerAdded : {U : Type 0} → Command → List ℕ → List ℕ → List ℕ → Result U Halt → Type 0
-AnswerAdded c text before after r = MatchResult r (λ u. after ≡ before ++ answer_text c text) (λ h. h ≡ NoMemory)
+AnswerAdded c text before after r = MatchResult r (λ u. after ≡ before ++ answer_text c text) (λ h. h ≡ Ended NoMemory)
 
 -- nothing more, and the script stops
 abbrev pub Halted : {U : Type 0} → Halt → List ℕ → List ℕ → Result U Halt → Type 0
@@ -23,16 +24,12 @@ Halted h before after r = (r ≡ Err h) × (after ≡ before)
 abbrev pub Said : {U : Type 0} → Command → Result Reply Stop → List ℕ → List ℕ → Result U Halt → Type 0
 Said c (Ok y) = AnswerAdded c (reply_text y)
 Said c (Err (stop.Refused f)) = AnswerAdded c (refusal_text f)
-Said c (Err stop.NoPile) = Halted NoPile
-Said c (Err stop.TooManyLayers) = Halted TooManyLayers
-Said c (Err stop.NoMemory) = Halted NoMemory
+Said c (Err (stop.Ended e)) = Halted (Ended e)
 
 -- a line that is no command
 abbrev pub Mistaken : Wrong → Halt → Type 0
 Mistaken w (Mistake m) = wrong_of m ≡ w
-Mistaken w NoPile = ⊥
-Mistaken w TooManyLayers = ⊥
-Mistaken w NoMemory = ⊥
+Mistaken w (Ended e) = ⊥
 
 -- what a line does that reads so, with the pile p before it and q after it
 abbrev pub Answered :

@@ -1,8 +1,10 @@
 // Why a script can't go on at a line. Nothing of that line was done.
 ghost use Rattle.std.specs.Prelude.{◌≡◌};
-ghost use Rattle.answers.specs.declared.halt.Halt.TheVariants.{Mistake as Misread, NoMemory};
+ghost use Rattle.answers.specs.declared.halt.Halt.TheVariants.{Mistake as Misread, Ended};
+ghost use Rattle.session.specs.declared.reply.End.TheVariants.{NoMemory};
 
 use script::command::Mistake;
+use session::reply::End;
 use std::alloc::AllocError;
 use std::{fmt, str};
 
@@ -10,19 +12,15 @@ use std::{fmt, str};
 pub enum Halt<'a> {
     // The line is no command.
     Mistake(Mistake<'a>),
-    // There is no pile yet.
-    NoPile,
-    // The pile has as many layers as it takes.
-    TooManyLayers,
-    // The machine has no memory left.
-    NoMemory,
+    // The line is a command, but the script ends here.
+    Ended(End),
 }
 
 impl From<AllocError> for Halt<'_> {
-    ghost from_gives = { λ _ r. r ≡ NoMemory };
+    ghost from_gives = { λ _ r. r ≡ Ended NoMemory };
 
     fn from(_error: AllocError) -> Self {
-        Self::NoMemory
+        Self::Ended(End::NoMemory)
     }
 }
 
@@ -58,11 +56,11 @@ impl fmt::Display for Halt<'_> {
                 let found = Found(mistake.found);
                 write!(f, "{expected}, found {found}")
             }
-            Halt::NoPile => f.write_str(
+            Halt::Ended(End::NoPile) => f.write_str(
                 "a store command before this one, for there is no pile yet",
             ),
-            Halt::TooManyLayers => f.write_str("no fifth layer, for a pile takes four"),
-            Halt::NoMemory => f.write_str("less, for the machine has no memory left"),
+            Halt::Ended(End::TooManyLayers) => f.write_str("no fifth layer, for a pile takes four"),
+            Halt::Ended(End::NoMemory) => f.write_str("less, for the machine has no memory left"),
         }
     }
 }

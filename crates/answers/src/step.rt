@@ -3,13 +3,12 @@ ghost use Rattle.std.specs.Prelude.{◌≡◌, ◌++◌, OnOk};
 ghost use Rattle.script.specs.Grammar.{command_of};
 ghost use Rattle.script.specs.Parsers.{unread, SameLine};
 ghost use Rattle.answers.specs.Buffers.{held};
-ghost use Rattle.answers.specs.Answers.{answer_text, reply_text, refusal_text};
+ghost use Rattle.answers.specs.Answers.{answer_text};
 ghost use Rattle.answers.specs.Steps.{Said, Answered};
 
-use crate::answer::{push_name, push_refusal, push_reply};
+use crate::answer::{Answer, push_name};
 use crate::buffer::Buffer;
 use crate::halt::Halt;
-use memory::fault::MemoryFault;
 use memory::flat::Flat;
 use piles::pile::Lines;
 use piles::stack::Stack;
@@ -20,22 +19,16 @@ use session::session::Session;
 use std::alloc::{AllocError, Global};
 use text::scanner::Scanner;
 
-// The line that answers a command that was done.
-fn push_done(out: &mut Buffer, command: Command, reply: Reply) -> Result<(), AllocError>
-    ensures { OnOk result (held out.new ≡ held out.old ++ answer_text command (reply_text reply)) }
+// The line that answers a command.
+fn push_line<A: Answer + Drop>(
+    out: &mut Buffer,
+    command: Command,
+    answer: A,
+) -> Result<(), AllocError>
+    ensures { OnOk result (held out.new ≡ held out.old ++ answer_text command (A.text answer)) }
 {
     push_name(out, command)?;
-    push_reply(out, reply)?;
-    out.put(b"\n")?;
-    Ok(())
-}
-
-// The line that answers a command that was refused.
-fn push_refused(out: &mut Buffer, command: Command, fault: MemoryFault) -> Result<(), AllocError>
-    ensures { OnOk result (held out.new ≡ held out.old ++ answer_text command (refusal_text fault)) }
-{
-    push_name(out, command)?;
-    push_refusal(out, fault)?;
+    answer.push(out)?;
     out.put(b"\n")?;
     Ok(())
 }
@@ -49,11 +42,9 @@ pub fn push_outcome<'a>(
     ensures { Said command outcome (held out.old) (held out.new) result }
 {
     match outcome {
-        Ok(reply) => push_done(out, command, reply)?,
-        Err(Stop::Refused(fault)) => push_refused(out, command, fault)?,
-        Err(Stop::NoPile) => return Err(Halt::NoPile),
-        Err(Stop::TooManyLayers) => return Err(Halt::TooManyLayers),
-        Err(Stop::NoMemory) => return Err(Halt::NoMemory),
+        Ok(reply) => push_line(out, command, reply)?,
+        Err(Stop::Refused(fault)) => push_line(out, command, fault)?,
+        Err(Stop::Ended(end)) => return Err(Halt::Ended(end)),
     }
     Ok(())
 }
