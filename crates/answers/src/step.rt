@@ -1,7 +1,7 @@
 // One line of a script: its command done on the session's pile, and its answer put behind the others.
 ghost use Rattle.std.specs.Prelude.{◌≡◌, ◌++◌, OnOk};
 ghost use Rattle.script.specs.Grammar.{command_of};
-ghost use Rattle.script.specs.Parsers.{unread, SameLine};
+ghost use Rattle.script.specs.Parsers.{unread};
 ghost use Rattle.answers.specs.Buffers.{held};
 ghost use Rattle.answers.specs.Answers.{answer_text};
 ghost use Rattle.answers.specs.Steps.{Said, Answered};
@@ -17,7 +17,7 @@ use script::parse::parse_command;
 use session::reply::{Reply, Stop};
 use session::session::Session;
 use std::alloc::{AllocError, Global};
-use text::scanner::Scanner;
+use text::scanner::Words;
 
 // The line that answers a command.
 fn push_line<A: Answer + Drop>(
@@ -49,16 +49,15 @@ pub fn push_outcome<'a>(
     Ok(())
 }
 
-// Does what the line says that the scanner is at, and answers it. A line with no words is passed over.
+// Does what the words of a line say, and answers it. A line with no words is passed over.
 pub fn answer_line<'a, T: Stack<Lines, Flat> + Drop>(
     session: &mut Session<T>,
     heap: Global,
-    words: &mut Scanner<'a>,
+    words: Words<'a>,
     out: &mut Buffer,
 ) -> Result<(), Halt<'a>>
-    ensures answer { Answered T.Memory.meaning T.Stack.room T.Stack.most (command_of (unread words.old))
+    ensures { Answered T.Memory.meaning T.Stack.room T.Stack.most (command_of (unread words.entry))
         session.old.pile session.new.pile (held out.old) (held out.new) result }
-    ensures line { SameLine words.old words.new }
 {
     let Some(command) = parse_command(words)? else {
         return Ok(());

@@ -36,7 +36,7 @@ fn run_lines<'a, T: Stack<Kept, Flat> + Drop>(
     let mut session: Session<T> = Session::new();
     let mut scanner = Scanner::new(text);
     loop {
-        if let Err(halt) = answer_line(&mut session, rt.alloc(), &mut scanner, out) {
+        if let Err(halt) = answer_line(&mut session, rt.alloc(), scanner.words(), out) {
             return Err(Problem::Halted(scanner.line(), halt));
         }
         if out.len() >= ENOUGH {

@@ -1,10 +1,9 @@
 -- How a list of words is read from its front: one word after another, up to the first that is wrong.
-use Rattle.std.specs.Prelude.{◌≡◌, ℕ, List, [], ◌∷◌, Some, None, Ok, Err, Option, Result}
+use Rattle.std.specs.Prelude.{ℕ, List, [], ◌∷◌, Some, None, Ok, Err, Option, Result}
 use Rattle.std.specs.Option.{option_map}
 use Rattle.script.specs.declared.command.Expected.{Expected}
 use Rattle.script.specs.declared.command.Mistake.{Mistake}
-use Rattle.text.specs.declared.scanner.Scanner.{Scanner}
-use Rattle.text.specs.Lines.{next_line}
+use Rattle.text.specs.declared.scanner.Words.{Words}
 use Rattle.text.specs.Words.{words_of}
 
 -- what should have stood where a line goes wrong, and the word that did, or none at the line's end
@@ -35,13 +34,9 @@ then (Err wrong) more = Err wrong
 abbrev pub done : {A : Type 0} → A → Parser A
 done value words = Ok (value, words)
 
--- the words of the line that are not yet taken
-abbrev pub unread : Scanner → List (List ℕ)
+-- the words of a line that are not yet taken
+abbrev pub unread : Words → List (List ℕ)
 unread words = words_of words.rest.now
-
--- the line is still the same, and so is what stands past it
-abbrev pub SameLine : Scanner → Scanner → Type 0
-SameLine before after = (after.passed ≡ before.passed) × (next_line after.rest.now ≡ next_line before.rest.now)
 
 -- a mistake as the grammar has it
 abbrev pub wrong_of : Mistake → Wrong

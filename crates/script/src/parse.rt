@@ -2,7 +2,7 @@
 
 ghost use Rattle.script.specs.Grammar as grammar;
 ghost use Rattle.script.specs.Grammar.{command_of};
-ghost use Rattle.script.specs.Parsers.{told, told_with, unread, one, SameLine};
+ghost use Rattle.script.specs.Parsers.{told, told_with, unread, one};
 ghost use Rattle.script.specs.declared.command.Expected.TheVariants as expected;
 ghost use Rattle.script.specs.declared.command.Field.TheVariants as field;
 ghost use Rattle.std.specs.Prelude.{◌≡◌};
@@ -10,12 +10,11 @@ ghost use Rattle.text.specs.Numbers.{decimal_of, hexadecimal_of};
 
 use crate::command::{Command, Expected, Field, Mistake, NewLayer, NewStore};
 use crate::meanings::{FromWord, is};
-use text::scanner::Scanner;
+use text::scanner::Words;
 
 /// What the next word says.
-fn take<'a, T: FromWord>(words: &mut Scanner<'a>, expected: Expected) -> Result<T, Mistake<'a>>
-    ensures read { told_with result (unread words.new) ≡ one expected T.meaning (unread words.old) }
-    ensures line { SameLine words.old words.new }
+fn take<'a, T: FromWord>(words: &mut Words<'a>, expected: Expected) -> Result<T, Mistake<'a>>
+    ensures { told_with result (unread words.new) ≡ one expected T.meaning (unread words.old) }
 {
     let found = words.next_word();
     found
@@ -24,9 +23,8 @@ fn take<'a, T: FromWord>(words: &mut Scanner<'a>, expected: Expected) -> Result<
 }
 
 /// The rest of `store flat READ WRITE SIZE`.
-fn store<'a>(words: &mut Scanner<'a>) -> Result<Command, Mistake<'a>>
-    ensures read { told_with result (unread words.new) ≡ grammar.store (unread words.old) }
-    ensures line { SameLine words.old words.new }
+fn store<'a>(words: &mut Words<'a>) -> Result<Command, Mistake<'a>>
+    ensures { told_with result (unread words.new) ≡ grammar.store (unread words.old) }
 {
     let kind = take(words, Expected::StoreKind)?;
     let read = take(words, Expected::Number(Field::Read))?;
@@ -41,9 +39,8 @@ fn store<'a>(words: &mut Scanner<'a>) -> Result<Command, Mistake<'a>>
 }
 
 /// The rest of `layer POLICY LINE SETS WAYS HIT`.
-fn layer<'a>(words: &mut Scanner<'a>) -> Result<Command, Mistake<'a>>
-    ensures read { told_with result (unread words.new) ≡ grammar.layer (unread words.old) }
-    ensures line { SameLine words.old words.new }
+fn layer<'a>(words: &mut Words<'a>) -> Result<Command, Mistake<'a>>
+    ensures { told_with result (unread words.new) ≡ grammar.layer (unread words.old) }
 {
     let policy = take(words, Expected::PolicyName)?;
     let line = take(words, Expected::Number(Field::Line))?;
@@ -60,29 +57,26 @@ fn layer<'a>(words: &mut Scanner<'a>) -> Result<Command, Mistake<'a>>
 }
 
 /// The address that follows a name.
-fn address<'a>(words: &mut Scanner<'a>) -> Result<usize, Mistake<'a>>
-    ensures read { told_with result (unread words.new)
+fn address<'a>(words: &mut Words<'a>) -> Result<usize, Mistake<'a>>
+    ensures { told_with result (unread words.new)
         ≡ one (expected.Number field.Address) decimal_of (unread words.old) }
-    ensures line { SameLine words.old words.new }
 {
     take(words, Expected::Number(Field::Address))
 }
 
 /// The memory word that follows an address.
-fn memory_word<'a>(words: &mut Scanner<'a>) -> Result<u32, Mistake<'a>>
-    ensures read { told_with result (unread words.new)
+fn memory_word<'a>(words: &mut Words<'a>) -> Result<u32, Mistake<'a>>
+    ensures { told_with result (unread words.new)
         ≡ one expected.MemoryWord hexadecimal_of (unread words.old) }
-    ensures line { SameLine words.old words.new }
 {
     take(words, Expected::MemoryWord)
 }
 
 /// The command of a name, with the words that follow it.
 // Not a match on byte strings: the proof of its last arm stayed open, since some thirty ways lead there.
-fn named<'a>(name: &'a [u8], words: &mut Scanner<'a>) -> Result<Command, Mistake<'a>>
-    ensures read { told_with result (unread words.new)
+fn named<'a>(name: &'a [u8], words: &mut Words<'a>) -> Result<Command, Mistake<'a>>
+    ensures { told_with result (unread words.new)
         ≡ grammar.chosen grammar.commands name.now (unread words.old) }
-    ensures line { SameLine words.old words.new }
 {
     if is(name, b"store") {
         store(words)
@@ -118,15 +112,14 @@ fn named<'a>(name: &'a [u8], words: &mut Scanner<'a>) -> Result<Command, Mistake
     }
 }
 
-/// The command that the next line of a text gives, or none where the line has no words.
-pub fn parse_command<'a>(words: &mut Scanner<'a>) -> Result<Option<Command>, Mistake<'a>>
-    ensures read { told result ≡ command_of (unread words.old) }
-    ensures line { SameLine words.old words.new }
+/// The command that the words of a line give, or none where there are no words.
+pub fn parse_command<'a>(mut words: Words<'a>) -> Result<Option<Command>, Mistake<'a>>
+    ensures { told result ≡ command_of (unread words.entry) }
 {
     let Some(name) = words.next_word() else {
         return Ok(None);
     };
-    let command = named(name, words)?;
+    let command = named(name, &mut words)?;
     match words.next_word() {
         None => Ok(Some(command)),
         found => Err(Mistake {

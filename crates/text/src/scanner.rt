@@ -1,4 +1,4 @@
-// A text read from its start: the words of a line one after the other, and then the next line.
+// A text read from its start, line by line, and the words of a line one after the other.
 
 ghost use Rattle.std.specs.Prelude.{◌≡◌, ◌+◌, ◌^◌, ◌<◌, ◌≤◌, true, [], ◌∷◌, length, is_some, MatchOption};
 ghost use Rattle.std.specs.Option.{option_map};
@@ -7,7 +7,13 @@ ghost use Rattle.text.specs.Words.{words_of, after_blanks, front_word, after_wor
 
 use crate::bytes::Class;
 
-/// The text that is not yet read, and how many lines were passed.
+/// The words of a line that are not yet read, at the front of a text.
+#[derive(Clone, Copy)]
+pub struct Words<'a> {
+    rest: &'a [u8],
+}
+
+/// The text from a line on, and how many lines were passed before it.
 #[derive(Drop)]
 pub struct Scanner<'a> {
     rest: &'a [u8],
@@ -22,8 +28,6 @@ fn cut_word(text: &[u8]) -> (&[u8], &[u8])
     ensures rest { result.1.now ≡ after_word (after_blanks text.now) }
     ensures none { length result.0.now ≡ 0 → words_of text.now ≡ [] }
     ensures some { 0 < length result.0.now → words_of text.now ≡ result.0.now ∷ words_of result.1.now }
-    ensures line { next_line result.1.now ≡ next_line text.now }
-    ensures within { length result.1.now ≤ length text.now }
 {
     let (_, text) = text.split_at(Class::Blank.run(text));
     text.split_at(Class::Word.run(text))
@@ -57,18 +61,11 @@ impl<'a> Scanner<'a> {
         self.passed + 1
     }
 
-    /// The next word of the line, or none where it has no more.
-    pub fn next_word(&mut self) -> Option<&'a [u8]>
-        ensures word { MatchOption result
-            (words_of self.old.rest.now ≡ [])
-            (λ w. words_of self.old.rest.now ≡ w.now ∷ words_of self.new.rest.now) }
-        ensures rest { self.new.rest.now ≡ after_word (after_blanks self.old.rest.now) }
-        ensures passed { self.new.passed ≡ self.old.passed }
-        ensures beyond { next_line self.new.rest.now ≡ next_line self.old.rest.now }
+    /// The words of the line.
+    pub fn words(&self) -> Words<'a>
+        ensures { result.rest.now ≡ self.now.rest.now }
     {
-        let (word, rest) = cut_word(self.rest);
-        self.rest = rest;
-        if word.is_empty() { None } else { Some(word) }
+        Words { rest: self.rest }
     }
 
     /// Goes on to the next line, and answers whether there is one.
@@ -85,5 +82,19 @@ impl<'a> Scanner<'a> {
         self.rest = rest;
         self.passed += 1;
         true
+    }
+}
+
+impl<'a> Words<'a> {
+    /// The next word of the line, or none where it has no more.
+    pub fn next_word(&mut self) -> Option<&'a [u8]>
+        ensures word { MatchOption result
+            (words_of self.old.rest.now ≡ [])
+            (λ w. words_of self.old.rest.now ≡ w.now ∷ words_of self.new.rest.now) }
+        ensures rest { self.new.rest.now ≡ after_word (after_blanks self.old.rest.now) }
+    {
+        let (word, rest) = cut_word(self.rest);
+        self.rest = rest;
+        if word.is_empty() { None } else { Some(word) }
     }
 }

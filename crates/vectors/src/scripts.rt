@@ -88,7 +88,7 @@ fn answered<T: Stack<Lines, Flat> + Drop>(
     let mut session: Session<T> = Session::new();
     let mut scanner = Scanner::new(script.as_bytes());
     for _ in 0..100 {
-        if answer_line(&mut session, rt.alloc(), &mut scanner, &mut out).is_err() {
+        if answer_line(&mut session, rt.alloc(), scanner.words(), &mut out).is_err() {
             return Err(Fail::new("the script stopped"));
         }
         if !scanner.next_line() {
