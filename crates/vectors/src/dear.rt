@@ -24,14 +24,14 @@ impl Memory for Dear {
     }
 
     fn peek(&self, address: usize) -> Result<u32, MemoryFault> {
-        if address < 4 {
-            Ok(self.words[address])
-        } else {
-            Err(MemoryFault::NotHeld(address))
-        }
+        self.words
+            .get(address)
+            .copied()
+            .ok_or(MemoryFault::NotHeld(address))
     }
 
     fn poke(&mut self, address: usize, word: u32) -> Result<(), MemoryFault> {
+        // Not get_mut: what the array is after it leaves the proof of the ghost field open.
         if address < 4 {
             self.words[address] = word;
             Ok(())

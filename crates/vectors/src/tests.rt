@@ -11,12 +11,9 @@ use memory::price::{Price, Prices};
 use std::process::Abort;
 use std::test::Fail;
 
-// The number and the place of a refusal, or 0 and 0.
-fn told<T: Drop>(answer: Result<T, MemoryFault>) -> (u32, usize) {
-    match answer {
-        Ok(_) => (0, 0),
-        Err(fault) => (fault.number(), fault.place()),
-    }
+// The number and the place of a refusal, if it is one.
+fn told<T: Drop>(answer: Result<T, MemoryFault>) -> Option<(u32, usize)> {
+    answer.err().map(|fault| (fault.number(), fault.place()))
 }
 
 // A store of so many zero words at 5 and 5.
@@ -24,90 +21,106 @@ fn store(rt: &HostRuntime, size: usize) -> Result<Flat, Fail> {
     Ok(Flat::new(vec![in rt.alloc(); 0; size]?, Prices::new(5, 5)?))
 }
 
-// A request: whether it writes, its address, and its price.
-type Step = (bool, usize, u32);
+// A request at an address.
+#[derive(Clone, Copy)]
+enum Request {
+    Read(usize),
+    Write(usize),
+}
 
-fn follow<M: Memory>(rt: &impl Abort, memory: &mut M, steps: &[Step]) -> Result<(), Fail> {
-    for step in steps {
-        let price = if step.0 {
-            memory.store(step.1, 7)?
-        } else {
-            memory.fetch(step.1)?.1
+use Request::{Read, Write};
+
+// Each request with its price.
+fn follow<M: Memory>(
+    rt: &impl Abort,
+    memory: &mut M,
+    steps: &[(Request, u32)],
+) -> Result<(), Fail> {
+    for (request, price) in steps {
+        let paid = match *request {
+            Read(address) => memory.fetch(address)?.1,
+            Write(address) => memory.store(address, 7)?,
         };
-        assert_eq!(rt; price, step.2);
+        assert_eq!(rt; paid, *price);
     }
     Ok(())
 }
 
 #[test]
 fn geometries(rt: HostRuntime) {
-    let rows: [(usize, usize, usize, usize); 18] = [
-        (1, 1, 1, 0),
-        (16, 64, 1, 0),
-        (16, 16, 4, 0),
-        (8, 8, 8, 0),
-        (2, 32, 2, 0),
-        (16, 16, 8, 4),
-        (1, 64, 2, 4),
-        (4, 2, 0, 3),
-        (4, 2, 9, 3),
-        (4, 0, 1, 2),
-        (4, 3, 1, 2),
-        (4, 128, 1, 2),
-        (0, 2, 1, 1),
-        (12, 2, 1, 1),
-        (32, 2, 1, 1),
-        (3, 3, 9, 1),
-        (4, 3, 9, 2),
-        (4, usize::MAX, usize::MAX, 2),
+    let rows: [(usize, usize, usize, Option<usize>); 18] = [
+        (1, 1, 1, None),
+        (16, 64, 1, None),
+        (16, 16, 4, None),
+        (8, 8, 8, None),
+        (2, 32, 2, None),
+        (16, 16, 8, Some(4)),
+        (1, 64, 2, Some(4)),
+        (4, 2, 0, Some(3)),
+        (4, 2, 9, Some(3)),
+        (4, 0, 1, Some(2)),
+        (4, 3, 1, Some(2)),
+        (4, 128, 1, Some(2)),
+        (0, 2, 1, Some(1)),
+        (12, 2, 1, Some(1)),
+        (32, 2, 1, Some(1)),
+        (3, 3, 9, Some(1)),
+        (4, 3, 9, Some(2)),
+        (4, usize::MAX, usize::MAX, Some(2)),
     ];
     for (line, sets, ways, place) in rows {
-        let number = if place == 0 { 0 } else { 4 };
-        assert_eq!(rt; told(Geometry::new(line, sets, ways)), (number, place));
+        assert_eq!(rt;
+            told(Geometry::new(line, sets, ways)),
+            place.map(|rule| (4, rule))
+        );
     }
 }
 
 #[test]
 fn settings(rt: HostRuntime) {
-    let counts: [(usize, u32); 5] = [(0, 1), (1, 0), (4096, 0), (4097, 1), (usize::MAX, 1)];
-    for (count, number) in counts {
-        let place = if number == 0 { 0 } else { count };
-        assert_eq!(rt; told(check_word_count(count)), (number, place));
+    for count in [1, 4096] {
+        assert_eq!(rt; told(check_word_count(count)), None);
     }
-    let prices: [(usize, usize, usize); 5] = [
-        (0, 0, 0),
-        (255, 255, 0),
-        (256, 0, 1),
-        (0, 256, 2),
-        (256, 256, 1),
+    for count in [0, 4097, usize::MAX] {
+        assert_eq!(rt; told(check_word_count(count)), Some((1, count)));
+    }
+    let prices: [(usize, usize, Option<usize>); 5] = [
+        (0, 0, None),
+        (255, 255, None),
+        (256, 0, Some(1)),
+        (0, 256, Some(2)),
+        (256, 256, Some(1)),
     ];
     for (read, write, place) in prices {
-        let number = if place == 0 { 0 } else { 3 };
-        assert_eq!(rt; told(Prices::new(read, write)), (number, place));
+        assert_eq!(rt;
+            told(Prices::new(read, write)),
+            place.map(|setting| (3, setting))
+        );
     }
-    assert_eq!(rt; told(Price::new(255)), (0, 0));
-    assert_eq!(rt; told(Price::new(256)), (3, 1));
+    assert_eq!(rt; told(Price::new(255)), None);
+    assert_eq!(rt; told(Price::new(256)), Some((3, 1)));
 }
 
 #[test]
 fn spans(rt: HostRuntime) -> Result<(), Fail> {
-    let rows: [(usize, usize, usize, usize); 10] = [
-        (1024, 1022, 2, 0),
-        (1024, 1023, 2, 1024),
-        (1024, 0, 1024, 0),
-        (1024, 0, 1025, 1024),
-        (1024, 1024, 1, 1024),
-        (1024, 5000, 1, 5000),
-        (1024, usize::MAX, usize::MAX, usize::MAX),
-        (1024, usize::MAX, 0, 0),
-        (0, 0, 1, 0),
-        (0, 9, 0, 0),
+    let rows: [(usize, usize, usize, Option<usize>); 10] = [
+        (1024, 1022, 2, None),
+        (1024, 1023, 2, Some(1024)),
+        (1024, 0, 1024, None),
+        (1024, 0, 1025, Some(1024)),
+        (1024, 1024, 1, Some(1024)),
+        (1024, 5000, 1, Some(5000)),
+        (1024, usize::MAX, usize::MAX, Some(usize::MAX)),
+        (1024, usize::MAX, 0, None),
+        (0, 0, 1, Some(0)),
+        (0, 9, 0, None),
     ];
     for (size, first, count, place) in rows {
         let memory = store(&rt, size)?;
-        let refused = count > 0 && (size == 0 || place > 0);
-        let number = if refused { 9 } else { 0 };
-        assert_eq!(rt; told(memory.admits(first, count)), (number, place));
+        assert_eq!(rt;
+            told(memory.admits(first, count)),
+            place.map(|address| (9, address))
+        );
     }
     Ok(())
 }
@@ -117,20 +130,20 @@ fn direct_mapped(rt: HostRuntime) -> Result<(), Fail> {
     let policy = DirectMapped::new(Geometry::new(4, 2, 8)?);
     let mut memory = Layer::new(policy, Price::new(1)?, store(&rt, 16)?);
     let steps = [
-        (false, 0, 6),
-        (false, 3, 1),
-        (false, 8, 6),
-        (false, 0, 6),
-        (true, 0, 6),
-        (true, 4, 6),
-        (false, 4, 6),
-        (false, 7, 1),
-        (false, 1, 1),
+        (Read(0), 6),
+        (Read(3), 1),
+        (Read(8), 6),
+        (Read(0), 6),
+        (Write(0), 6),
+        (Write(4), 6),
+        (Read(4), 6),
+        (Read(7), 1),
+        (Read(1), 1),
     ];
     follow(&rt, &mut memory, &steps)?;
     memory.chill();
-    follow(&rt, &mut memory, &[(false, 1, 6), (false, 4, 6)])?;
-    assert_eq!(rt; told(memory.fetch(16)), (9, 16));
+    follow(&rt, &mut memory, &[(Read(1), 6), (Read(4), 6)])?;
+    assert_eq!(rt; told(memory.fetch(16)), Some((9, 16)));
     assert_eq!(rt; memory.peek(4)?, 7);
     Ok(())
 }
@@ -140,16 +153,16 @@ fn least_recently_used(rt: HostRuntime) -> Result<(), Fail> {
     let policy = Lru::new(Geometry::new(4, 1, 2)?);
     let mut memory = Layer::new(policy, Price::new(1)?, store(&rt, 16)?);
     let steps = [
-        (false, 0, 6),
-        (false, 4, 6),
-        (false, 0, 1),
-        (false, 8, 6),
-        (false, 4, 6),
-        (false, 0, 6),
-        (true, 12, 6),
-        (false, 12, 6),
-        (false, 1, 1),
-        (false, 4, 6),
+        (Read(0), 6),
+        (Read(4), 6),
+        (Read(0), 1),
+        (Read(8), 6),
+        (Read(4), 6),
+        (Read(0), 6),
+        (Write(12), 6),
+        (Read(12), 6),
+        (Read(1), 1),
+        (Read(4), 6),
     ];
     follow(&rt, &mut memory, &steps)
 }
@@ -163,10 +176,10 @@ fn saturation(rt: HostRuntime) -> Result<(), Fail> {
     let two = Layer::new(Lru::new(lines), Price::new(36)?, one);
     let mut three = Layer::new(DirectMapped::new(lines), Price::new(255)?, two);
     let steps = [
-        (false, 0, 65535),
-        (false, 0, 255),
-        (true, 0, 65535),
-        (false, 1, 65535),
+        (Read(0), 65535),
+        (Read(0), 255),
+        (Write(0), 65535),
+        (Read(1), 65535),
     ];
     follow(&rt, &mut three, &steps)
 }
@@ -191,15 +204,15 @@ fn tall_pile(rt: HostRuntime) -> Result<(), Fail> {
         second,
     );
     let steps = [
-        (false, 0, 15),
-        (false, 1, 3),
-        (false, 0, 3),
-        (false, 0, 1),
-        (true, 0, 15),
-        (false, 8, 10),
-        (false, 16, 15),
+        (Read(0), 15),
+        (Read(1), 3),
+        (Read(0), 3),
+        (Read(0), 1),
+        (Write(0), 15),
+        (Read(8), 10),
+        (Read(16), 15),
     ];
     follow(&rt, &mut top, &steps)?;
     top.chill();
-    follow(&rt, &mut top, &[(false, 0, 15), (false, 8, 10)])
+    follow(&rt, &mut top, &[(Read(0), 15), (Read(8), 10)])
 }
