@@ -1,3 +1,4 @@
-mod Counts
+mod Erased
 mod Few
 mod Laid
+mod Writing

@@ -3,10 +3,10 @@ use Rattle.std.specs.Prelude.{ℕ, ◌+◌, List, [], ◌∷◌, ◌++◌}
 use Rattle.trace.specs.Acts.{Act, each, clears}
 use Rattle.ciphers.specs.declared.cipher.Cipher.{Cipher}
 use Rattle.ciphers.specs.Kinds.{rules_of}
-use Rattle.engines.specs.declared.regions.Engine.{Engine}
-use Rattle.engines.specs.declared.regions.Engine.TheVariants.{Tabled, Sliced}
-use Rattle.engines.specs.declared.regions.Regions.{Regions}
-use Rattle.engines.specs.declared.regions.Span.{Span}
+use Rattle.engines.specs.declared.engine.Engine.{Engine}
+use Rattle.engines.specs.declared.engine.Engine.TheVariants.{Tabled, Sliced}
+use Rattle.placement.specs.declared.regions.Regions.{Regions}
+use Rattle.placement.specs.declared.regions.Span.{Span}
 
 -- the work words that an engine has used
 abbrev pub work_words : Cipher → Engine → ℕ

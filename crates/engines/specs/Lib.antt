@@ -1,3 +1,5 @@
 pub mod Spans
+pub mod Writes
 pub mod Ran
+pub mod Done
 pub mod Erasing

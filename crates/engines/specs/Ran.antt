@@ -2,7 +2,7 @@
 use Rattle.std.specs.Prelude.{◌≡◌, ℕ, ◌+◌, ◌*◌, ◌%◌, ◌^◌, ◌<◌, ◌≤◌, List, ◌++◌, length, drop}
 use Rattle.memory.specs.Meanings.{Meaning}
 use Rattle.engines.specs.Spans.{AllHeld, FirstBarred}
-use Rattle.engines.specs.declared.regions.Span.{Span}
+use Rattle.placement.specs.declared.regions.Span.{Span}
 use Rattle.engines.specs.declared.fault.SectionFault.{SectionFault}
 use Rattle.engines.specs.declared.fault.SectionFault.TheVariants.{Memory, TraceTooShort}
 use Rattle.trace.specs.Acts.{Act, after, cycles}

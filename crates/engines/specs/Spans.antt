@@ -3,7 +3,7 @@ use Rattle.std.specs.Prelude.{◌⊎◌, List, [], ◌∷◌}
 use Rattle.memory.specs.declared.fault.MemoryFault.{MemoryFault}
 use Rattle.memory.specs.Meanings.{Meaning}
 use Rattle.memory.specs.Calls.{Admits, Bars}
-use Rattle.engines.specs.declared.regions.Span.{Span}
+use Rattle.placement.specs.declared.regions.Span.{Span}
 
 abbrev pub AllHeld : Meaning → List Span → Type 0
 AllHeld m [] = Unit {0}

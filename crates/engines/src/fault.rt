@@ -4,7 +4,7 @@ ghost use Rattle.engines.specs.declared.fault.SectionFault.TheVariants.{Memory a
 
 use memory::fault::MemoryFault;
 
-#[derive(Clone, Copy)]
+#[derive(Clone, Copy, Debug)]
 pub enum SectionFault {
     // A region is not held.
     Memory(MemoryFault),

@@ -2,7 +2,7 @@
 
 #![tactic(auto)]
 
+pub mod engine;
 pub mod fault;
-pub mod regions;
 pub mod sections;
 mod spans;

@@ -1,23 +1,53 @@
 // The sections that need no cipher: placing the key, and erasing.
-ghost use Rattle.std.specs.Prelude.{◌≡◌, ℕ, ◌+◌, ◌<◌, ◌≤◌, [], ◌∷◌, length, MatchResult};
-ghost use Rattle.trace.specs.Acts.{each, puts, trace_words};
+ghost use Rattle.std.specs.Prelude.{◌≡◌, ℕ, ◌+◌, ◌<◌, ◌≤◌, [], ◌∷◌, length};
+ghost use Rattle.trace.specs.Acts.{each, puts};
+ghost use Rattle.trace.specs.Sections.{section_number};
 ghost use Rattle.engines.specs.Erasing.{erased_spans, erasing_acts, erasing_entries};
-ghost use Rattle.engines.specs.Ran.{desk, Ran, Undone};
+ghost use Rattle.engines.specs.Ran.{desk};
+ghost use Rattle.engines.specs.Done.{Done};
+ghost use Rattle.engines.specs.Writes.{spans_of, acts_of, entries_of, IsZeros};
 
+use crate::engine::{Engine, work_words};
 use crate::fault::SectionFault;
-use crate::regions::{Engine, Regions, Span, admit_all, work_words};
-use crate::spans::{clear_three, write_all};
+use crate::spans::{Write, admit_all, entries, write_each};
 use ciphers::cipher::Cipher;
 use memory::memory::Memory;
+use placement::regions::Regions;
 use trace::list::Bounded;
 use trace::pen::{InSection, Pen};
 use trace::section::Section;
 
 // What a section wrote and cost.
-#[derive(Clone, Copy)]
+#[derive(Clone, Copy, Debug, PartialEq, Eq)]
 pub struct Totals {
     pub entries: u32,
     pub cycles: u32,
+}
+
+// Does a section that writes these words, and asks for nothing else.
+fn write_section<M: Memory>(
+    memory: &mut M,
+    trace: &mut [u32],
+    pen: &mut Pen,
+    section: Section,
+    writes: &[Write],
+) -> Result<Totals, SectionFault>
+    requires { length writes.now ≤ 16 }
+    ensures { Done (section_number (Some section)) (entries_of writes.now) (acts_of writes.now) (spans_of writes.now)
+        (desk (M.Memory.meaning memory.old) trace.old pen.old) (desk (M.Memory.meaning memory.new) trace.new pen.new) result }
+{
+    admit_all(memory, writes)?;
+    let needed = entries(writes);
+    if trace.len() < needed {
+        return Err(SectionFault::TraceTooShort(needed));
+    }
+    let guard = InSection::open(pen, Some(section));
+    let mut list = Bounded::new(trace);
+    let cycles = write_each(memory, &mut list, guard.pen, writes);
+    Ok(Totals {
+        entries: needed as u32,
+        cycles,
+    })
 }
 
 // Section 1, placing: writes each key word to the key region, as given.
@@ -28,32 +58,29 @@ pub fn place_key<M: Memory>(
     first: usize,
     key: &[u32],
 ) -> Result<Totals, SectionFault>
-    ensures ran { MatchResult result
-        (λ t. (t.entries ≡ length key.now)
-        × Ran (length key.now) (each (length key.now) (puts first key.now)) (trace_words 1 (each (length key.now) (puts first key.now)))
-        (desk (M.Memory.meaning memory.old) trace.old pen.old) (desk (M.Memory.meaning memory.new) trace.new pen.new) t.cycles)
-        (Undone (record { first = first; count = length key.now } ∷ []) (length key.now)
-        (desk (M.Memory.meaning memory.old) trace.old pen.old) (desk (M.Memory.meaning memory.new) trace.new pen.new)) }
+    ensures ran { Done 1 (length key.now) (each (length key.now) (puts first key.now)) (record { first = first; count = length key.now } ∷ [])
+        (desk (M.Memory.meaning memory.old) trace.old pen.old) (desk (M.Memory.meaning memory.new) trace.new pen.new) result }
 {
-    admit_all(
+    write_section(
         memory,
-        &[Span {
-            first,
-            count: key.len(),
-        }],
-    )?;
-    if trace.len() < key.len() {
-        return Err(SectionFault::TraceTooShort(key.len()));
+        trace,
+        pen,
+        Section::Placing,
+        &[Write { first, words: key }],
+    )
+}
+
+const ZEROS: [u32; 128] = [0; 128];
+
+// As many zeros, to be written from an address on.
+fn zeros(first: usize, count: usize) -> Write<'static>
+    requires { count ≤ 128 }
+    ensures { IsZeros first count result }
+{
+    Write {
+        first,
+        words: &ZEROS[..count],
     }
-    let guard = InSection::open(pen, Section::Placing);
-    let mut list = Bounded::new(trace);
-    let Ok(cycles) = write_all(memory, &mut list, guard.pen, first, key) else {
-        unreachable()
-    };
-    Ok(Totals {
-        entries: list.len() as u32,
-        cycles,
-    })
 }
 
 // Section 4, erasing: writes 0 to the key words, the schedule words and, if sliced, the work words.
@@ -65,37 +92,11 @@ pub fn erase<M: Memory>(
     engine: Engine,
     regions: Regions,
 ) -> Result<Totals, SectionFault>
-    ensures ran { MatchResult result
-        (λ t. (t.entries ≡ erasing_entries cipher engine)
-        × Ran (erasing_entries cipher engine) (erasing_acts cipher engine regions) (trace_words 4 (erasing_acts cipher engine regions))
-        (desk (M.Memory.meaning memory.old) trace.old pen.old) (desk (M.Memory.meaning memory.new) trace.new pen.new) t.cycles)
-        (Undone (erased_spans cipher engine regions) (erasing_entries cipher engine)
-        (desk (M.Memory.meaning memory.old) trace.old pen.old) (desk (M.Memory.meaning memory.new) trace.new pen.new)) }
+    ensures ran { Done 4 (erasing_entries cipher engine) (erasing_acts cipher engine regions) (erased_spans cipher engine regions)
+        (desk (M.Memory.meaning memory.old) trace.old pen.old) (desk (M.Memory.meaning memory.new) trace.new pen.new) result }
 {
-    let key = Span {
-        first: regions.key,
-        count: cipher.key_words(),
-    };
-    let schedule = Span {
-        first: regions.schedule,
-        count: cipher.schedule_words(),
-    };
-    let work = Span {
-        first: regions.work,
-        count: work_words(cipher, engine),
-    };
-    admit_all(memory, &[key, schedule, work])?;
-    let needed = key.count + (schedule.count + work.count);
-    if trace.len() < needed {
-        return Err(SectionFault::TraceTooShort(needed));
-    }
-    let guard = InSection::open(pen, Section::Erasing);
-    let mut list = Bounded::new(trace);
-    let Ok(cycles) = clear_three(memory, &mut list, guard.pen, key, schedule, work) else {
-        unreachable()
-    };
-    Ok(Totals {
-        entries: needed as u32,
-        cycles,
-    })
+    let key = zeros(regions.key, cipher.key_words());
+    let schedule = zeros(regions.schedule, cipher.schedule_words());
+    let work = zeros(regions.work, work_words(cipher, engine));
+    write_section(memory, trace, pen, Section::Erasing, &[key, schedule, work])
 }

@@ -1,108 +1,112 @@
-// Recorded requests span by span: words written, words read. For regions that the caller knows to be held, and a trace with room.
-ghost use Rattle.std.specs.Prelude.{◌≡◌, ℕ, ◌+◌, ◌*◌, ◌<◌, ◌≤◌, [], ◌∷◌, ◌++◌, length, MatchResult};
+// Recorded requests span by span: words written, words read. For spans that the caller knows to be held, and a trace with room.
+ghost use Rattle.std.specs.Prelude.{◌≡◌, ℕ, ◌+◌, ◌*◌, ◌^◌, ◌<◌, ◌≤◌, length, map, MatchResult};
 ghost use Rattle.memory.specs.Calls.{Admits};
-ghost use Rattle.trace.specs.Acts.{each, gets, puts, clears, span};
-ghost use Rattle.engines.specs.Spans.{AllHeld};
+ghost use Rattle.trace.specs.Acts.{each, gets, span};
 ghost use Rattle.trace.specs.Did.{seen, words_of, Ready, Did};
+ghost use Rattle.engines.specs.Spans.{AllHeld, FirstBarred};
+ghost use Rattle.engines.specs.Writes.{write_span, write_acts, spans_of, acts_of, entries_of};
 
-use crate::regions::Span;
+use memory::fault::MemoryFault;
 use memory::memory::Memory;
 use trace::list::Bounded;
 use trace::pen::Pen;
-use trace::record::{Unrecorded, record_fetch, record_store};
+use trace::record::{record_fetch, record_store};
 
-// Writes each word from an address on.
-pub(crate) fn write_all<M: Memory>(
+// Words, and the address from which on they are to be written.
+#[derive(Clone, Copy)]
+pub(crate) struct Write<'a> {
+    pub(crate) first: usize,
+    pub(crate) words: &'a [u32],
+}
+
+// How many words are to be written.
+pub(crate) fn entries(writes: &[Write]) -> usize
+    requires { entries_of writes.now < 2 ^ 64 }
+    ensures { result ≡ entries_of writes.now }
+{
+    writes.iter().map(|write| write.words.len()).sum()
+}
+
+// Whether each span that is to be written is held; else the fault of the first that is not.
+pub(crate) fn admit_all<M: Memory>(memory: &M, writes: &[Write]) -> Result<(), MemoryFault>
+    ensures { MatchResult result
+        (λ _. AllHeld (M.Memory.meaning memory.now) (spans_of writes.now))
+        (FirstBarred (M.Memory.meaning memory.now) (spans_of writes.now)) }
+{
+    for write in writes {
+        memory.admits(write.first, write.words.len())?;
+    }
+    Ok(())
+}
+
+// The memory, the list and the pen are no struct here either: trace/src/record.rt says why.
+
+// Writes each word from an address on: what it cost.
+fn write_all<M: Memory>(
     memory: &mut M,
     trace: &mut Bounded<u32>,
     pen: &mut Pen,
-    first: usize,
-    words: &[u32],
-) -> Result<u32, Unrecorded>
-    requires held { Admits (M.Memory.meaning memory.old) first (length words.now) }
-    requires ready { Ready (length words.now) (seen M.Memory.meaning memory.old trace.old pen.old) }
+    write: Write,
+) -> u32
+    requires held { Admits (M.Memory.meaning memory.old) write.first (length write.words.now) }
+    requires ready { Ready (length write.words.now) (seen M.Memory.meaning memory.old trace.old pen.old) }
     ensures lender { trace.new.items.ghost_name ≡ trace.old.items.ghost_name }
-    ensures did { MatchResult result
-        (Did (length words.now) (each (length words.now) (puts first words.now))
-        (seen M.Memory.meaning memory.old trace.old pen.old) (seen M.Memory.meaning memory.new trace.new pen.new))
-        (λ _. ⊥) }
+    ensures did { Did (length write.entry.words.now) (write_acts write.entry)
+        (seen M.Memory.meaning memory.old trace.old pen.old) (seen M.Memory.meaning memory.new trace.new pen.new) result }
 {
     let mut cycles = 0;
-    for i in 0..words.len() {
-        cycles += record_store(memory, trace, pen, first + i, words[i])?;
+    for (i, &word) in write.words.iter().enumerate() {
+        let Ok(price) = record_store(memory, trace, pen, write.first + i, word) else {
+            unreachable()
+        };
+        cycles += price;
     }
-    Ok(cycles)
+    cycles
 }
 
-// Reads words from an address on, as many as there is room for.
+// Reads words from an address on, as many as there is room for: what it cost.
 pub(crate) fn read_all<M: Memory>(
     memory: &mut M,
     trace: &mut Bounded<u32>,
     pen: &mut Pen,
     first: usize,
     out: &mut [u32],
-) -> Result<u32, Unrecorded>
+) -> u32
     requires held { first + length out.old ≤ length (words_of M.Memory.meaning memory.old) }
     requires ready { Ready (length out.old) (seen M.Memory.meaning memory.old trace.old pen.old) }
     ensures lender { trace.new.items.ghost_name ≡ trace.old.items.ghost_name }
-    ensures did { MatchResult result
-        (λ paid. (out.new ≡ span (words_of M.Memory.meaning memory.old) first (length out.old))
-        × Did (length out.old) (each (length out.old) (gets first))
-        (seen M.Memory.meaning memory.old trace.old pen.old) (seen M.Memory.meaning memory.new trace.new pen.new) paid)
-        (λ _. ⊥) }
+    ensures read { out.new ≡ span (words_of M.Memory.meaning memory.old) first (length out.old) }
+    ensures did { Did (length out.old) (each (length out.old) (gets first))
+        (seen M.Memory.meaning memory.old trace.old pen.old) (seen M.Memory.meaning memory.new trace.new pen.new) result }
 {
     let mut cycles = 0;
-    for i in 0..out.len() {
-        let (word, price) = record_fetch(memory, trace, pen, first + i)?;
-        out[i] = word;
+    for (i, slot) in out.iter_mut().enumerate() {
+        let Ok((word, price)) = record_fetch(memory, trace, pen, first + i) else {
+            unreachable()
+        };
+        *slot = word;
         cycles += price;
     }
-    Ok(cycles)
+    cycles
 }
 
-// Makes each word of a region 0.
-pub(crate) fn clear_all<M: Memory>(
+// Writes one list of words after another: what they cost.
+pub(crate) fn write_each<M: Memory>(
     memory: &mut M,
     trace: &mut Bounded<u32>,
     pen: &mut Pen,
-    first: usize,
-    count: usize,
-) -> Result<u32, Unrecorded>
-    requires held { Admits (M.Memory.meaning memory.old) first count }
-    requires ready { Ready count (seen M.Memory.meaning memory.old trace.old pen.old) }
+    writes: &[Write],
+) -> u32
+    requires few { length writes.now ≤ 16 }
+    requires held { AllHeld (M.Memory.meaning memory.old) (spans_of writes.now) }
+    requires ready { Ready (entries_of writes.now) (seen M.Memory.meaning memory.old trace.old pen.old) }
     ensures lender { trace.new.items.ghost_name ≡ trace.old.items.ghost_name }
-    ensures did { MatchResult result
-        (Did count (each count (clears first))
-        (seen M.Memory.meaning memory.old trace.old pen.old) (seen M.Memory.meaning memory.new trace.new pen.new))
-        (λ _. ⊥) }
+    ensures did { Did (entries_of writes.now) (acts_of writes.now)
+        (seen M.Memory.meaning memory.old trace.old pen.old) (seen M.Memory.meaning memory.new trace.new pen.new) result }
 {
     let mut cycles = 0;
-    for i in 0..count {
-        cycles += record_store(memory, trace, pen, first + i, 0)?;
+    for write in writes {
+        cycles += write_all(memory, trace, pen, *write);
     }
-    Ok(cycles)
-}
-
-// Makes each word of three regions 0, one after the other.
-pub(crate) fn clear_three<M: Memory>(
-    memory: &mut M,
-    trace: &mut Bounded<u32>,
-    pen: &mut Pen,
-    one: Span,
-    two: Span,
-    three: Span,
-) -> Result<u32, Unrecorded>
-    requires held { AllHeld (M.Memory.meaning memory.old) (one ∷ two ∷ three ∷ []) }
-    requires ready { Ready (one.count + (two.count + three.count)) (seen M.Memory.meaning memory.old trace.old pen.old) }
-    ensures lender { trace.new.items.ghost_name ≡ trace.old.items.ghost_name }
-    ensures did { MatchResult result
-        (Did (one.count + (two.count + three.count))
-        (each one.count (clears one.first) ++ (each two.count (clears two.first) ++ each three.count (clears three.first)))
-        (seen M.Memory.meaning memory.old trace.old pen.old) (seen M.Memory.meaning memory.new trace.new pen.new))
-        (λ _. ⊥) }
-{
-    let first = clear_all(memory, trace, pen, one.first, one.count)?;
-    let second = clear_all(memory, trace, pen, two.first, two.count)?;
-    let third = clear_all(memory, trace, pen, three.first, three.count)?;
-    Ok(first + (second + third))
+    cycles
 }

@@ -1,2 +1,2 @@
 pub mod Distinct
-pub mod Sharing
+pub mod Lowests

@@ -3,16 +3,17 @@ ghost use Rattle.std.specs.Prelude.{◌≡◌};
 ghost use Rattle.placement.specs.Faults.{bench_code};
 ghost use Rattle.placement.specs.declared.fault.BenchFault.TheVariants.{Memory as ByMemory};
 
+use crate::regions::Region;
 use memory::fault::MemoryFault;
 
-#[derive(Clone, Copy)]
+#[derive(Clone, Copy, Debug)]
 pub enum BenchFault {
     // The memory's own fault, or a region, span or word that it does not hold.
     Memory(MemoryFault),
     // This region ends past the size that the placement is for.
-    RegionPastSize(usize),
+    RegionPastSize(Region),
     // This region shares an address with a later one.
-    RegionsShare(usize),
+    RegionsShare(Region),
     UnknownCipher,
     UnknownEngine,
     // This many blocks: none, or more than a text can have.
@@ -53,7 +54,8 @@ impl BenchFault {
     {
         match self {
             BenchFault::Memory(fault) => fault.place(),
-            BenchFault::RegionPastSize(region) | BenchFault::RegionsShare(region) => region,
+            BenchFault::RegionPastSize(region) | BenchFault::RegionsShare(region) =>
+                region as usize,
             BenchFault::UnknownCipher | BenchFault::CounterWords => 1,
             BenchFault::UnknownEngine | BenchFault::KeyWords => 2,
             BenchFault::BlockCount(count) => count,

@@ -1,6 +1,11 @@
 // A list over a lent slice: as many items as the slice has room for, one behind the other.
-ghost use Rattle.std.specs.Prelude.{◌≡◌, ℕ, ◌+◌, ◌<◌, ◌≤◌, length, if◌then◌else◌, nat_le, nat_lt, slice_set};
+ghost use Rattle.std.specs.Prelude.{◌≡◌, ℕ, ◌+◌, ◌<◌, ◌≤◌, length, nat_le, slice_set, MatchResult};
 
+// There is no room for one more item.
+#[derive(Clone, Copy, Debug, PartialEq, Eq)]
+pub struct Full;
+
+// A length beside a slice, and no `Vec`: a section has no heap, and writes into a buffer that it is lent.
 // The slice is the caller's again when the list ends; what stands behind the last item is never touched.
 #[derive(Drop)]
 pub struct Bounded<'a, T> {
@@ -30,19 +35,22 @@ impl<'a, T: Copy> Bounded<'a, T> {
         self.items.len() <= self.len
     }
 
-    // Puts x behind the last item, and says whether there was room.
-    pub fn push(&mut self, x: T) -> bool
-        ensures room { result ≡ nat_lt self.old.len (length self.old.items.now) }
-        ensures items { self.new.items.now ≡ slice_set self.old.items.now self.old.len x }
-        ensures count { self.new.len ≡ (if result then self.old.len + 1 else self.old.len) }
+    // Puts x behind the last item; a full list stays as it is.
+    pub fn push(&mut self, x: T) -> Result<(), Full>
+        ensures pushed { MatchResult result
+            (λ _. (self.old.len < length self.old.items.now)
+            × (self.new.items.now ≡ slice_set self.old.items.now self.old.len x)
+            × (self.new.len ≡ self.old.len + 1))
+            (λ _. (length self.old.items.now ≤ self.old.len)
+            × (self.new.items.now ≡ self.old.items.now)
+            × (self.new.len ≡ self.old.len)) }
         ensures lender { self.new.items.ghost_name ≡ self.old.items.ghost_name }
     {
-        if self.len < self.items.len() {
-            self.items[self.len] = x;
-            self.len += 1;
-            true
-        } else {
-            false
+        if self.is_full() {
+            return Err(Full);
         }
+        self.items[self.len] = x;
+        self.len += 1;
+        Ok(())
     }
 }

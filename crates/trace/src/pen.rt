@@ -1,18 +1,30 @@
 // The pen: which section is in force, and how many entries were written. A guard puts the section back on every way out.
-ghost use Rattle.std.specs.Prelude.{◌≡◌};
+ghost use Rattle.std.specs.Prelude.{◌≡◌, ◌≤◌};
+ghost use Rattle.trace.specs.Sections.{section_number};
 
 use crate::section::Section;
 
-#[derive(Clone, Copy)]
+#[derive(Clone, Copy, Debug, PartialEq, Eq)]
 pub struct Pen {
-    pub section: Section,
+    // None is outside a run.
+    pub section: Option<Section>,
     pub entries: u32,
+}
+
+impl Pen {
+    // The number of the section in force, and 0 outside a run.
+    pub fn section_number(self) -> u32
+        ensures value { result ≡ section_number self.section }
+        ensures bound { result ≤ 4 }
+    {
+        self.section.map_or(0, |section| section.number())
+    }
 }
 
 // A section that is open. However it is left, the section before it is in force again.
 pub struct InSection<'a> {
     pub pen: &'a mut Pen,
-    before: Section,
+    before: Option<Section>,
 }
 
 impl Drop for InSection<'_> {
@@ -26,7 +38,7 @@ impl Drop for InSection<'_> {
 }
 
 impl<'a> InSection<'a> {
-    pub fn open(pen: &'a mut Pen, section: Section) -> InSection<'a>
+    pub fn open(pen: &'a mut Pen, section: Option<Section>) -> InSection<'a>
         ensures inside { result.pen.now.section ≡ section }
         ensures entries { result.pen.now.entries ≡ pen.old.entries }
         ensures before { result.before ≡ pen.old.section }

@@ -1,18 +1,18 @@
-// One recorded request: asked of the memory, written into the trace, counted by the pen.
-ghost use Rattle.std.specs.Prelude.{◌≡◌, ℕ, ◌<◌, ◌≤◌, [], ◌∷◌, length, MatchResult, slice_index};
-ghost use Rattle.trace.specs.declared.record.Unrecorded.TheVariants.{Memory as ByMemory};
-ghost use Rattle.memory.specs.Calls.{Fetches, Stores, Refuses};
+// Recorded requests: asked of the memory, written into the trace, counted by the pen.
+ghost use Rattle.std.specs.Prelude.{◌≡◌, ℕ, ◌+◌, ◌*◌, ◌%◌, ◌^◌, ◌<◌, ◌≤◌, [], ◌∷◌, length, MatchResult, slice_index};
+ghost use Rattle.trace.specs.declared.record.Unrecorded.TheVariants.{Memory as ByMemory, NoRoom as WithoutRoom};
 ghost use Rattle.trace.specs.Acts.{reads, writes};
+ghost use Rattle.trace.specs.Sections.{section_number};
 ghost use Rattle.trace.specs.Did.{seen, Did};
-ghost use Rattle.trace.specs.Records.{Unasked};
+ghost use Rattle.trace.specs.Records.{Unasked, Notes, kind_bits};
 
-use crate::list::Bounded;
+use crate::list::{Bounded, Full};
 use crate::pen::Pen;
 use memory::fault::MemoryFault;
 use memory::memory::Memory;
 
 // Why a request was not made.
-#[derive(Clone, Copy)]
+#[derive(Clone, Copy, Debug)]
 pub enum Unrecorded {
     // The memory refuses it.
     Memory(MemoryFault),
@@ -28,31 +28,40 @@ impl From<MemoryFault> for Unrecorded {
     }
 }
 
-const READ: u32 = 0x4000_0000;
+impl From<Full> for Unrecorded {
+    ghost from_gives = { λ f r. r ≡ WithoutRoom };
 
-const WRITE: u32 = 0x8000_0000;
+    fn from(_: Full) -> Unrecorded {
+        Unrecorded::NoRoom
+    }
+}
+
+// What an entry tells: the discriminant stands from bit 30 on, and the section's number from bit 26 on.
+#[derive(Clone, Copy, Debug, PartialEq, Eq)]
+enum Kind {
+    Read = 1,
+    Write = 2,
+}
+
+const KIND: u32 = 0x4000_0000;
 
 const SECTION: u32 = 0x0400_0000;
 
-// A fetch, whose price the laws bound.
-fn fetch_bounded<M: Memory>(memory: &mut M, address: usize) -> Result<(u32, u32), MemoryFault>
-    ensures { MatchResult result
-        (λ v. (v.1 ≤ 65535) × Fetches (M.Memory.meaning memory.old) address (M.Memory.meaning memory.new) v)
-        (Refuses (M.Memory.meaning memory.old) address (M.Memory.meaning memory.new)) }
+// Writes the entry of a request behind the last one, and counts it.
+fn note(trace: &mut Bounded<u32>, pen: &mut Pen, kind: Kind, address: usize) -> Result<(), Full>
+    requires { address < 4096 }
+    ensures lender { trace.new.items.ghost_name ≡ trace.old.items.ghost_name }
+    ensures noted { MatchResult result
+        (λ _. Notes (kind_bits kind + section_number pen.old.section * 0x0400_0000 + address) trace.old pen.old trace.new pen.new)
+        (λ _. length trace.old.items.now ≤ trace.old.len) }
 {
-    let answer = memory.fetch(address)?;
-    Ok(answer)
+    let word = kind as u32 * KIND + pen.section_number() * SECTION + address as u32;
+    trace.push(word)?;
+    pen.entries = pen.entries.wrapping_add(1);
+    Ok(())
 }
 
-// A store, whose price the laws bound.
-fn store_bounded<M: Memory>(memory: &mut M, address: usize, word: u32) -> Result<u32, MemoryFault>
-    ensures { MatchResult result
-        (λ v. (v ≤ 65535) × Stores (M.Memory.meaning memory.old) address word (M.Memory.meaning memory.new) v)
-        (Refuses (M.Memory.meaning memory.old) address (M.Memory.meaning memory.new)) }
-{
-    let price = memory.store(address, word)?;
-    Ok(price)
-}
+// No struct of the memory, the list and the pen: tried, and no rule proves what one with a list in it leaves of the three.
 
 // Fetches the word at an address, and records it: the word and its price. A request that is not made alters nothing.
 pub fn record_fetch<M: Memory>(
@@ -71,10 +80,8 @@ pub fn record_fetch<M: Memory>(
     if trace.is_full() {
         return Err(Unrecorded::NoRoom);
     }
-    let section = pen.section.number();
-    let (word, price) = fetch_bounded(memory, address)?;
-    let _ = trace.push(READ + section * SECTION + address as u32);
-    pen.entries = pen.entries.wrapping_add(1);
+    let (word, price) = memory.fetch(address)?;
+    note(trace, pen, Kind::Read, address)?;
     Ok((word, price))
 }
 
@@ -95,9 +102,7 @@ pub fn record_store<M: Memory>(
     if trace.is_full() {
         return Err(Unrecorded::NoRoom);
     }
-    let section = pen.section.number();
-    let price = store_bounded(memory, address, word)?;
-    let _ = trace.push(WRITE + section * SECTION + address as u32);
-    pen.entries = pen.entries.wrapping_add(1);
+    let price = memory.store(address, word)?;
+    note(trace, pen, Kind::Write, address)?;
     Ok(price)
 }

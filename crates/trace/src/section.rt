@@ -2,28 +2,20 @@
 ghost use Rattle.std.specs.Prelude.{◌≡◌, ◌≤◌};
 ghost use Rattle.trace.specs.Sections.{section_number};
 
-#[derive(Clone, Copy)]
+// A section. Its discriminant is the number that trace words and totals tell.
+#[derive(Clone, Copy, Debug, PartialEq, Eq)]
 pub enum Section {
-    // Outside a run.
-    None,
-    Placing,
-    Expansion,
-    Rounds,
-    Erasing,
+    Placing = 1,
+    Expansion = 2,
+    Rounds = 3,
+    Erasing = 4,
 }
 
 impl Section {
-    // The number that trace words and totals tell.
     pub fn number(self) -> u32
-        ensures value { result ≡ section_number self }
+        ensures value { result ≡ section_number (Some self) }
         ensures bound { result ≤ 4 }
     {
-        match self {
-            Section::None => 0,
-            Section::Placing => 1,
-            Section::Expansion => 2,
-            Section::Rounds => 3,
-            Section::Erasing => 4,
-        }
+        self as u32
     }
 }

@@ -10,7 +10,7 @@ loop-i-init g c = (search rules, below_none _, starts _ _)
 pub loop-i-preserved : goal.loop-i-preserved
 loop-i-preserved g c =
     let so_far = c.loop-i.invariant.2 in
-    let fetch = c.in_ok-word.ensures.did in
+    let fetch = c.in-Ok.ensures.did in
     let lt : c.loop-i.i < length c.loop-i.out = omega arith in (
       search rules,
       below_more _ _
@@ -19,9 +19,5 @@ loop-i-preserved g c =
       again _ _ so_far fetch.2,
     )
 
-pub returns : goal.returns
-returns g c =
-    record {
-      lender = search rules;
-      did = (is_span _ _ _ _ (omega arith) (omega arith) (λ k l. c.loop-i.invariant.1 k (omega arith)), search rules);
-    }
+pub returns-clause-read : goal.returns-clause-read
+returns-clause-read g c = is_span _ _ _ _ (omega arith) (omega arith) (λ k l. c.loop-i.invariant.1 k (omega arith))

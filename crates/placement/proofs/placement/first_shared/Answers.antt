@@ -1,8 +1,13 @@
-use Rattle.std.proofs.Common.{arith, below_more}
+use Rattle.std.proofs.Common.{rules}
+use borrow.Author.Tests.{tests}
+use Rattle.std.proofs.lemmas.Iterator.{first_from_find, YieldsList-from_slice}
+use Rattle.placement.specs.Regions.{SharesLater, ApartLater}
+use Rattle.placement.proofs.Lowests.{in_order, lowest}
 use Rattle.placement.proofs.placement.first_shared.Goals as goal
 
-pub loop-i-preserved : goal.loop-i-preserved
-loop-i-preserved c = below_more _ _ c.loop-i.invariant c.if-shares_above.ensures
-
 pub returns : goal.returns
-returns c = λ i j h k. c.loop-i.invariant i (omega arith) j h k
+returns c =
+    let shares = SharesLater c.args.regions in
+    let apart = ApartLater c.args.regions in
+    lowest shares apart _ _ c.copied.ensures
+    (first_from_find _ _ _ shares apart c.find.ensures.ran (YieldsList-from_slice in_order c.iter.ensures.rest) (λ x q k. search (rules, tests)) (λ x q k. search (rules, tests)))
