@@ -4,7 +4,7 @@ ghost use Rattle.engines.specs.declared.fault.SectionFault.TheVariants.{Memory a
 
 use memory::fault::MemoryFault;
 
-#[derive(Clone, Copy, Debug)]
+#[derive(Clone, Copy, Debug, PartialEq, Eq)]
 pub enum SectionFault {
     // A region is not held.
     Memory(MemoryFault),

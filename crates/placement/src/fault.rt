@@ -6,7 +6,7 @@ ghost use Rattle.placement.specs.declared.fault.BenchFault.TheVariants.{Memory a
 use crate::regions::Region;
 use memory::fault::MemoryFault;
 
-#[derive(Clone, Copy, Debug)]
+#[derive(Clone, Copy, Debug, PartialEq, Eq)]
 pub enum BenchFault {
     // The memory's own fault, or a region, span or word that it does not hold.
     Memory(MemoryFault),

@@ -12,7 +12,7 @@ use memory::fault::MemoryFault;
 use memory::memory::Memory;
 
 // Why a request was not made.
-#[derive(Clone, Copy, Debug)]
+#[derive(Clone, Copy, Debug, PartialEq, Eq)]
 pub enum Unrecorded {
     // The memory refuses it.
     Memory(MemoryFault),
