@@ -1,11 +1,9 @@
 -- How a word is cut off a line, and where the next line begins.
-use Rattle.std.proofs.Common.{◌≡◌, ℕ, suc, ◌+◌, ◌<◌, ◌≤◌, true, List, [], ◌∷◌, length, take, drop, Some, None, Option, Bor, sym, refl, ap, ◌∙◌, subst, inl, inr, add-one, one-add, arith, length-drop}
+use Rattle.std.proofs.Common.{◌≡◌, ℕ, suc, ◌+◌, ◌<◌, ◌≤◌, true, List, [], ◌∷◌, length, take, drop, Some, None, slice_index, ◌==◌, sym, refl, ap, ◌∙◌, subst, inl, inr, add-one, one-add, arith, length-drop}
 use Rattle.std.proofs.lemmas.Bool.{cases_Bool}
-use Rattle.std.proofs.lemmas.List.{take_rest}
-use Rattle.std.proofs.lemmas.List.Sums.{prefix_len-le-length}
+use Rattle.std.proofs.lemmas.List.Sums.{prefix_len_is}
 use Rattle.std.specs.List.{prefix_len}
-use Rattle.std.specs.Option.{option_map, MatchOption}
-use Rattle.std.specs.Slice.{IsGetRangeResult}
+use Rattle.memchr.specs.Find.{NoneBefore, Nowhere, Passes, is_byte}
 use Rattle.text.specs.Bytes.{in_line, blank, ending, in_word}
 use Rattle.text.specs.Lines.{next_line, beyond}
 use Rattle.text.specs.Words.{words_from, words_of, after_blanks, front_word, after_word}
@@ -100,14 +98,17 @@ past_line text rest n n_is l rest_is =
       within = beyond_within rest;
     }
 
--- what is known of what stands past the first line feed, where there may be none
-pub record After (text : List ℕ) (r : Option (Bor (List ℕ))) : Type 0 where
-  pub value : option_map (λ x. x.now) r ≡ next_line text
-  pub shorter : MatchOption r (Unit {0}) (λ rest. (length rest.now < length text) × (beyond (next_line rest.now) ≤ length rest.now))
+outside : (b : ℕ) → ((b == 10) ≡ true → ⊥) → in_line b ≡ true
+outside b h = elim (cases_Bool (b == 10)) [ inl s ↦ absurd (h s) | inr s ↦ simp s ]
 
-pub after : (text : List ℕ) (n : ℕ) (r : Option (Bor (List ℕ))) → n ≡ prefix_len in_line text → IsGetRangeResult text (n + 1) (length text) r → After text r
-after text n None n_is h =
-    record { value = sym (no_line_feed text (omega (arith, h.0, n_is, prefix_len-le-length in_line text))); shorter = tt }
-after text n (Some rest) n_is h =
-    let facts = past_line text rest.now n n_is (omega (arith, h.0.0)) (h.0.2 ∙ take_rest text (n + 1)) in
-    record { value = facts.next; shorter = (facts.shorter, facts.within) }
+-- the first line feed of a text stands where the line ends
+pub feed_at : (text : List ℕ) (k : ℕ) → NoneBefore (Passes (is_byte 10) text) 0 (length text) k × Passes (is_byte 10) text k
+    → k ≡ prefix_len in_line text
+feed_at text k h =
+    sym (prefix_len_is in_line text k 0 (omega (arith, h.0.high)) (λ j l. outside (slice_index text j) (h.0.before j (omega arith) l))
+    (λ _. simp h.1))
+
+pub no_feed : (text : List ℕ) → Nowhere (Passes (is_byte 10) text) 0 (length text) → prefix_len in_line text ≡ length text
+no_feed text h =
+    prefix_len_is in_line text (length text) 0 (omega arith) (λ j l. outside (slice_index text j) (h j (omega arith) l))
+    (λ l. absurd (omega (arith, l)))

@@ -1,7 +1,7 @@
 -- Which bytes belong to a line, to the blanks between words, and to a word.
 use Rattle.std.specs.Prelude.{ℕ, Bool, not, ◌||◌, ◌==◌}
 use Rattle.text.specs.declared.bytes.Class.{Class}
-use Rattle.text.specs.declared.bytes.Class.TheVariants.{Line, Blank, Word}
+use Rattle.text.specs.declared.bytes.Class.TheVariants.{Blank, Word}
 
 -- a line goes on up to a line feed
 abbrev pub in_line : ℕ → Bool
@@ -21,6 +21,5 @@ in_word b = not (blank b || ending b)
 
 -- the bytes of a class
 abbrev pub belongs : Class → ℕ → Bool
-belongs Line = in_line
 belongs Blank = blank
 belongs Word = in_word

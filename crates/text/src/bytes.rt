@@ -7,8 +7,6 @@ ghost use Rattle.text.specs.Bytes.{belongs};
 /// What a byte can be part of.
 #[derive(Clone, Copy, Debug, PartialEq, Eq)]
 pub enum Class {
-    /// A line, which goes on up to a line feed.
-    Line,
     /// The blanks between words. A carriage return is one, so that lines may end in `\r\n`.
     Blank,
     /// A word, which goes on up to a blank, a comment or the line's end.
@@ -22,7 +20,6 @@ impl Class {
     {
         let blank = byte == b' ' || byte == b'\t' || byte == b'\r';
         match self {
-            Class::Line => byte != b'\n',
             Class::Blank => blank,
             Class::Word => !(blank || byte == b'#' || byte == b'\n'),
         }

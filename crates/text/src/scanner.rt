@@ -6,6 +6,7 @@ ghost use Rattle.text.specs.Lines.{next_line, beyond};
 ghost use Rattle.text.specs.Words.{words_of, after_blanks, front_word, after_word};
 
 use crate::bytes::Class;
+use memchr::memchr;
 
 /// The words of a line that are not yet read, at the front of a text.
 #[derive(Clone, Copy)]
@@ -40,7 +41,8 @@ fn after_line(text: &[u8]) -> Option<&[u8]>
         (Unit {0})
         (λ rest. (length rest.now < length text.now) × (beyond (next_line rest.now) ≤ length rest.now)) }
 {
-    text.get(Class::Line.run(text) + 1..)
+    let end = memchr(b'\n', text)?;
+    Some(&text[end + 1..])
 }
 
 impl<'a> Scanner<'a> {
