@@ -1,4 +1,3 @@
-pub mod Fours
 pub mod Lookups
 pub mod Moves
 pub mod Nibbles

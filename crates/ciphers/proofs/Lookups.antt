@@ -1,5 +1,7 @@
 -- What a look-up in a table gives: the words of a table are as its rule says, and a word gives back the bytes that it was made of.
-use Rattle.std.proofs.Common.{◌≡◌, ℕ, zero, suc, ◌+◌, ◌*◌, ◌/◌, ◌%◌, ◌^◌, ◌<◌, T, ltb, List, [], ◌∷◌, get_or, ap, ◌∙◌, zero-add, arith, ltb→lt}
+use Rattle.std.proofs.Common.{◌≡◌, ℕ, zero, suc, ◌+◌, ◌*◌, ◌/◌, ◌%◌, ◌^◌, ◌<◌, ltb, true, List, [], ◌∷◌, get_or, refl, ap, ◌∙◌, zero-add, arith}
+use Rattle.std.specs.List.{list_all}
+use Rattle.std.proofs.lemmas.Bool.{ltb-true, and_parts}
 use Rattle.std.proofs.lemmas.List.FromFn.{get_or-map-range_with_len}
 use Rattle.ciphers.specs.Bytes.{bits_sum, word_bytes, bytes_word}
 use Rattle.ciphers.specs.Field.{aes_s, affine_bit, field_inverse}
@@ -18,20 +20,16 @@ pub aes_s_below : (v : ℕ) → aes_s v < 256
 unfolding aes_s
 aes_s_below v = bits_below (affine_bit (field_inverse v)) (λ i. omega arith)
 
-abbrev pub every_below : List ℕ → ℕ → Type 0
-every_below [] b = Unit {0}
-every_below (x ∷ xs) b = T (ltb x b) × every_below xs b
-
-pub slice_index_below : (xs : List ℕ) (b : ℕ) → 0 < b → every_below xs b → (i : ℕ) → get_or xs i 0 < b
+-- a look-up in a list whose numbers are all below b
+pub slice_index_below : (xs : List ℕ) (b : ℕ) → 0 < b → list_all (λ x. ltb x b) xs ≡ true → (i : ℕ) → get_or xs i 0 < b
 slice_index_below [] b p h i = p
-slice_index_below (x ∷ xs) b p h zero = ltb→lt x b h.0
-slice_index_below (x ∷ xs) b p h (suc i) = slice_index_below xs b p h.1 i
+slice_index_below (x ∷ xs) b p h zero = ltb-true x b (and_parts (ltb x b) _ h).0
+slice_index_below (x ∷ xs) b p h (suc i) = slice_index_below xs b p (and_parts (ltb x b) _ h).1 i
 
 pub present_s_below : (v : ℕ) → present_s v < 16
 unfolding present_s
 present_s_below v =
-    slice_index_below (0xc ∷ 0x5 ∷ 0x6 ∷ 0xb ∷ 0x9 ∷ 0x0 ∷ 0xa ∷ 0xd ∷ 0x3 ∷ 0xe ∷ 0xf ∷ 0x8 ∷ 0x4 ∷ 0x7 ∷ 0x1 ∷ 0x2 ∷ []) 16 (omega arith)
-    (tt, (tt, (tt, (tt, (tt, (tt, (tt, (tt, (tt, (tt, (tt, (tt, (tt, (tt, (tt, (tt, tt)))))))))))))))) v
+    slice_index_below (0xc ∷ 0x5 ∷ 0x6 ∷ 0xb ∷ 0x9 ∷ 0x0 ∷ 0xa ∷ 0xd ∷ 0x3 ∷ 0xe ∷ 0xf ∷ 0x8 ∷ 0x4 ∷ 0x7 ∷ 0x1 ∷ 0x2 ∷ []) 16 (omega arith) refl v
 
 pub present_byte_below : (v : ℕ) → present_byte v < 256
 present_byte_below v = omega (arith, present_s_below (v / 16), present_s_below (v % 16))
@@ -62,8 +60,11 @@ module _ (a b c d : ℕ) (ha : a < 256) (hb : b < 256) (hc : c < 256) (hd : d < 
 
 -- ---- an entry of a table
 
-pub table_entry : (k : Cipher) (v : ℕ) → get_or (word_bytes (table_word (rules_of k) (v / 4))) (v % 4) 0 ≡ (rules_of k).byte_by_s v
-table_entry k v =
+pub word_of_table : (k : Cipher) (ws : List ℕ) → ws ≡ table_words (rules_of k) → (i : ℕ) → i < 64 → get_or ws i 0 ≡ table_word (rules_of k) i
+word_of_table k ws is i lt = ap (λ (xs : List ℕ). get_or xs i 0) is ∙ get_or-map-range_with_len (table_word (rules_of k)) 0 64 i i 0 lt (zero-add i)
+
+pub byte_of_word : (k : Cipher) (v : ℕ) → get_or (word_bytes (table_word (rules_of k) (v / 4))) (v % 4) 0 ≡ (rules_of k).byte_by_s v
+byte_of_word k v =
     let f : ℕ → ℕ = λ c. (rules_of k).byte_by_s (4 * (v / 4) + c) in
     let lt : v % 4 < 4 = omega arith in
     let place : 4 * (v / 4) + v % 4 ≡ v = omega arith in
@@ -71,6 +72,3 @@ table_entry k v =
     (bytes_again (f 0) (f 1) (f 2) (f 3) (byte_by_s_below k _) (byte_by_s_below k _) (byte_by_s_below k _) (byte_by_s_below k _))
     ∙ get_or-map-range_with_len f 0 4 (v % 4) (v % 4) 0 lt (zero-add (v % 4))
     ∙ ap (rules_of k).byte_by_s place
-
-pub word_of_table : (k : Cipher) (ws : List ℕ) → ws ≡ table_words (rules_of k) → (i : ℕ) → i < 64 → get_or ws i 0 ≡ table_word (rules_of k) i
-word_of_table k ws e i lt = ap (λ (xs : List ℕ). get_or xs i 0) e ∙ get_or-map-range_with_len (table_word (rules_of k)) 0 64 i i 0 lt (zero-add i)

@@ -1,4 +1,4 @@
--- One step more of each recursion, as a loop that counts from 0 makes it.
+-- One step more of each recursion, as a loop that counts from 0 makes it: for engines, which go through the rounds and the schedule.
 use Rattle.std.proofs.Common.{◌≡◌, ℕ, ◌+◌, ◌-◌, ◌*◌, ◌/◌, ◌^◌, List, [], ◌∷◌, ◌++◌, get_or, sym, refl, ap, ◌∙◌, add-one}
 use lib.Bits.{bit_xor}
 use Rattle.ciphers.specs.Aes.{AesState, four_words, aes_add_key, aes_middle_round, aes_after, aes_turned, aes_expanded}

@@ -1,8 +1,8 @@
 // The steps of AES on a state of four columns of four rows, which go in and come out by value.
-ghost use Rattle.std.specs.Prelude.{◌≡◌, bit_xor, slice_index};
+ghost use Rattle.std.specs.Prelude.{◌≡◌, ◌+◌, ◌%◌, ◌<◌, bit_xor, slice_index};
 ghost use Rattle.ciphers.specs.Bytes.{listed, word_bytes};
 ghost use Rattle.ciphers.specs.Field.{aes_s, field_product};
-ghost use Rattle.ciphers.specs.Aes.{words_state, state_words, aes_sub_bytes, aes_shift_rows, aes_mix_column, aes_mix_columns, aes_add_key};
+ghost use Rattle.ciphers.specs.Aes.{cell, words_state, state_words, aes_sub_bytes, aes_shift_rows, aes_mix_column, aes_mix_columns, aes_add_key};
 ghost use Rattle.ciphers.specs.Aes.{aes_sub_word, rcon, aes_turned};
 ghost use Rattle.ciphers.specs.Kinds.{rules_of};
 
@@ -18,24 +18,14 @@ pub type State = [[u8; 4]; 4];
 pub fn state_of(block: [u32; 4]) -> State
     ensures { result ≡ words_state block }
 {
-    [
-        block[0].to_be_bytes(),
-        block[1].to_be_bytes(),
-        block[2].to_be_bytes(),
-        block[3].to_be_bytes(),
-    ]
+    block.map(u32::to_be_bytes)
 }
 
 // The block of words of a state.
 pub fn block_of(s: State) -> [u32; 4]
     ensures { result ≡ state_words s }
 {
-    [
-        u32::from_be_bytes(s[0]),
-        u32::from_be_bytes(s[1]),
-        u32::from_be_bytes(s[2]),
-        u32::from_be_bytes(s[3]),
-    ]
+    s.map(u32::from_be_bytes)
 }
 
 fn sub_byte(v: u8) -> u8
@@ -47,33 +37,25 @@ fn sub_byte(v: u8) -> u8
 fn sub_column(col: [u8; 4]) -> [u8; 4]
     ensures { result ≡ listed 4 (λ i. aes_s (slice_index col i)) }
 {
-    [
-        sub_byte(col[0]),
-        sub_byte(col[1]),
-        sub_byte(col[2]),
-        sub_byte(col[3]),
-    ]
+    col.map(sub_byte)
 }
 
 pub fn sub_bytes(s: State) -> State
     ensures { result ≡ aes_sub_bytes s }
 {
-    [
-        sub_column(s[0]),
-        sub_column(s[1]),
-        sub_column(s[2]),
-        sub_column(s[3]),
-    ]
+    s.map(sub_column)
 }
 
+// Row r moves r columns to the left. Written out, the places show it; a closure's contract would be longer.
 pub fn shift_rows(s: State) -> State
     ensures { result ≡ aes_shift_rows s }
 {
+    let [a, b, c, d] = s;
     [
-        [s[0][0], s[1][1], s[2][2], s[3][3]],
-        [s[1][0], s[2][1], s[3][2], s[0][3]],
-        [s[2][0], s[3][1], s[0][2], s[1][3]],
-        [s[3][0], s[0][1], s[1][2], s[2][3]],
+        [a[0], b[1], c[2], d[3]],
+        [b[0], c[1], d[2], a[3]],
+        [c[0], d[1], a[2], b[3]],
+        [d[0], a[1], b[2], c[3]],
     ]
 }
 
@@ -91,6 +73,8 @@ fn mix(a: u8, b: u8, c: u8, d: u8) -> u8
     double(a) ^ ((b ^ double(b)) ^ (c ^ d))
 }
 
+// Written out, since each byte then stands with the three below it, and with no index modulo 4.
+#[tactic(auto, unfolding(crate::specs::Aes::aes_mix_column))]
 fn mix_column(col: [u8; 4]) -> [u8; 4]
     ensures { result ≡ aes_mix_column col }
 {
@@ -106,14 +90,10 @@ fn mix_column(col: [u8; 4]) -> [u8; 4]
 pub fn mix_columns(s: State) -> State
     ensures { result ≡ aes_mix_columns s }
 {
-    [
-        mix_column(s[0]),
-        mix_column(s[1]),
-        mix_column(s[2]),
-        mix_column(s[3]),
-    ]
+    s.map(mix_column)
 }
 
+// A word added to a column. Written out, as the check of `array::from_fn` takes four times as long here.
 fn add_word(col: [u8; 4], w: u32) -> [u8; 4]
     ensures { result ≡ listed 4 (λ i. bit_xor (slice_index col i) (slice_index (word_bytes w) i)) }
 {
@@ -126,7 +106,8 @@ fn add_word(col: [u8; 4], w: u32) -> [u8; 4]
     ]
 }
 
-// Each column takes its word of four.
+// Each column takes its word of four. Written out, as a closure over both would need a contract of two lines.
+#[tactic(auto, unfolding(crate::specs::Aes::aes_add_key))]
 pub fn add_round_key(s: State, key: [u32; 4]) -> State
     ensures { result ≡ aes_add_key key s }
 {
@@ -149,19 +130,18 @@ pub fn sub_word(w: u32) -> u32
 fn round_constant(j: usize) -> u32
     ensures { result ≡ rcon j }
 {
-    if j > 10 { 0 } else { RCON[j.saturating_sub(1)] }
+    RCON.get(j.saturating_sub(1)).copied().unwrap_or(0)
 }
 
 // What word i of a schedule takes besides word i - k, where k is the cipher's key words and `before` is word i - 1.
+#[tactic(auto, unfolding(crate::specs::Aes::aes_turned))]
 pub fn turn(cipher: Cipher, i: usize, before: u32) -> u32
     ensures { result ≡ aes_turned (rules_of cipher).key_words i before }
 {
     let k = cipher.key_words();
-    if i % k == 0 {
-        sub_word(before.rotate_left(8)) ^ (round_constant(i / k) << 24)
-    } else if k == 8 && i % k == 4 {
-        sub_word(before)
-    } else {
-        before
+    match i % k {
+        0 => sub_word(before.rotate_left(8)) ^ (round_constant(i / k) << 24),
+        4 if k == 8 => sub_word(before),
+        _ => before,
     }
 }

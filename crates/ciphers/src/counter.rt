@@ -3,12 +3,11 @@ ghost use Rattle.std.specs.Prelude.{◌≡◌};
 ghost use Rattle.ciphers.specs.Counter.{counter_block};
 
 // The counter of block j: j is added to its last word, modulo 2^32.
-pub fn counter_of<const N: usize>(counter: [u32; N], j: u32) -> [u32; N]
+pub fn counter_of<const N: usize>(mut counter: [u32; N], j: u32) -> [u32; N]
     ensures { result ≡ counter_block N counter.entry j }
 {
-    let mut block = counter;
-    if N > 0 {
-        block[N - 1] = counter[N - 1].wrapping_add(j);
+    if let Some(last) = counter.last_mut() {
+        *last = last.wrapping_add(j);
     }
-    block
+    counter
 }

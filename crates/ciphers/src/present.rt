@@ -10,7 +10,8 @@ use super::table;
 pub fn state_of(block: [u32; 2]) -> u64
     ensures { result ≡ words_number (slice_index block 0) (slice_index block 1) }
 {
-    ((block[0] as u64) << 32) + block[1] as u64
+    let [high, low] = block;
+    (u64::from(high) << 32) + u64::from(low)
 }
 
 // The two words of a state or a round key.
@@ -34,15 +35,11 @@ fn sub_byte(v: u8) -> u8
 }
 
 // S at every nibble, byte by byte from the top.
+#[tactic(auto, using(crate::proofs::Nibbles::layer_by_bytes))]
 pub fn sub_nibbles(s: u64) -> u64
     ensures { result ≡ present_layer s }
 {
-    let mut out = 0;
-    for i in 0..8u32 {
-        let byte = (s >> (56 - 8 * i)) % 256;
-        out = (out << 8) + sub_byte(byte as u8) as u64;
-    }
-    out
+    u64::from_be_bytes(s.to_be_bytes().map(sub_byte))
 }
 
 // The bit that moves to a place.
@@ -57,34 +54,17 @@ fn source(place: u32) -> u32
 pub fn move_bits(s: u64) -> u64
     ensures { result ≡ present_move s }
 {
-    let mut out = 0;
-    for t in 0..64 {
-        out = (out << 1) + (s >> source(63 - t)) % 2;
-    }
-    out
+    (0..64).fold(0, |out, t| (out << 1) + (s >> source(63 - t)) % 2)
 }
 
 // The low nibble of what the table has for a nibble.
+#[tactic(auto, using(crate::proofs::Lookups::present_s_below))]
 fn sub_nibble(v: u8) -> u8
     requires { v < 16 }
-    ensures { result ≡ present_s v }
+    ensures value { result ≡ present_s v }
+    ensures nibble { result < 16 }
 {
     sub_byte(v) % 16
-}
-
-// 80 bits rotated left by 61: the low 19 come to the top.
-fn rotate(bits: u128) -> u128
-    requires { bits < 2 ^ 80 }
-    ensures { result ≡ rotated_register bits }
-{
-    ((bits % (1 << 19)) << 61) + (bits >> 19)
-}
-
-fn sub_top_nibble(bits: u128) -> u128
-    requires { bits < 2 ^ 80 }
-    ensures { result ≡ top_nibble_by_s bits }
-{
-    ((sub_nibble((bits >> 76) as u8) as u128) << 76) + bits % (1 << 76)
 }
 
 // The key register: 80 bits, of which the 64 on top are the round key.
@@ -99,8 +79,9 @@ impl KeyRegister {
     pub fn new(key: [u32; 3]) -> KeyRegister
         ensures { result.bits ≡ present_register key }
     {
+        let [top, middle, low] = key;
         KeyRegister {
-            bits: ((key[0] as u128) << 48) + ((key[1] as u128) << 16) + (key[2] as u128 >> 16),
+            bits: (u128::from(top) << 48) + (u128::from(middle) << 16) + (u128::from(low) >> 16),
         }
     }
 
@@ -110,12 +91,32 @@ impl KeyRegister {
         (self.bits >> 16) as u64
     }
 
+    // The register rotated left by 61: the low 19 bits come to the top.
+    fn rotated(self) -> KeyRegister
+        ensures { result.bits ≡ rotated_register self.bits }
+    {
+        KeyRegister {
+            bits: ((self.bits % (1 << 19)) << 61) + (self.bits >> 19),
+        }
+    }
+
+    // The register with S at its top nibble.
+    fn with_top_nibble_by_s(self) -> KeyRegister
+        ensures { result.bits ≡ top_nibble_by_s self.bits }
+    {
+        let top = sub_nibble((self.bits >> 76) as u8);
+        KeyRegister {
+            bits: (u128::from(top) << 76) + self.bits % (1 << 76),
+        }
+    }
+
     // The register after its update of a number, from 1.
+    #[tactic(auto, unfolding(crate::specs::Present::present_turned))]
     pub fn update(self, number: usize) -> KeyRegister
         ensures { result.bits ≡ present_turned number self.bits }
     {
         KeyRegister {
-            bits: sub_top_nibble(rotate(self.bits)) ^ ((number as u128) << 15),
+            bits: self.rotated().with_top_nibble_by_s().bits ^ ((number as u128) << 15),
         }
     }
 }

@@ -1,7 +1,7 @@
 // S as a table: 256 bytes in 64 words, the first byte on top. PRESENT's has S at both nibbles of a byte.
-ghost use Rattle.std.specs.Prelude.{◌≡◌, ◌%◌, ◌<◌, ◌≤◌, MatchOption, slice_index};
+ghost use Rattle.std.specs.Prelude.{◌≡◌, ℕ, ◌%◌, ◌<◌, ◌≤◌, MatchOption, slice_index};
 ghost use Rattle.ciphers.specs.Bytes.{word_bytes};
-ghost use Rattle.ciphers.specs.Rules.{table_word, table_words};
+ghost use Rattle.ciphers.specs.Rules.{table_word};
 ghost use Rattle.ciphers.specs.Kinds.{rules_of};
 
 use super::cipher::Cipher;
@@ -142,7 +142,7 @@ const PRESENT: [u32; 64] = [
 
 // The table of a cipher.
 fn table_of(cipher: Cipher) -> &'static [u32; 64]
-    ensures { result.now ≡ table_words (rules_of cipher) }
+    ensures { (i : ℕ) → i < 64 → slice_index result.now i ≡ table_word (rules_of cipher) i }
 {
     match cipher {
         Cipher::Aes128 | Cipher::Aes192 | Cipher::Aes256 => &AES,
@@ -150,42 +150,24 @@ fn table_of(cipher: Cipher) -> &'static [u32; 64]
     }
 }
 
-// The word of a cipher's table that has S at the bytes 4 i to 4 i + 3.
-fn word_of(cipher: Cipher, i: usize) -> u32
-    requires { i < 64 }
-    ensures { result ≡ table_word (rules_of cipher) i }
-{
-    table_of(cipher)[i]
-}
-
-// The same, where the table has such a word.
+// The word of a cipher's table that has S at the bytes 4 i to 4 i + 3, where the table has such a word.
 pub fn table_word(cipher: Cipher, i: usize) -> Option<u32>
     ensures { MatchOption result (64 ≤ i) (λ w. (i < 64) × (w ≡ table_word (rules_of cipher) i)) }
 {
-    if i < 64 {
-        Some(word_of(cipher, i))
-    } else {
-        None
-    }
+    table_of(cipher).get(i).copied()
 }
 
 // The byte of a word at a place from the top, where place 4 is place 0 again: a byte stands so for its place in its word of the table.
 pub fn byte_at(w: u32, place: u8) -> u8
     ensures { result ≡ slice_index (word_bytes w) (place % 4) }
 {
-    w.to_be_bytes()[place as usize % 4]
-}
-
-// The word of a cipher's table that has what S makes of a byte.
-fn word_with(cipher: Cipher, v: u8) -> u32
-    ensures { slice_index (word_bytes result) (v % 4) ≡ (rules_of cipher).byte_by_s v }
-{
-    word_of(cipher, v as usize / 4)
+    w.to_be_bytes()[usize::from(place) % 4]
 }
 
 // What S makes of a byte, by the table.
+#[tactic(auto, using(crate::proofs::Lookups::byte_of_word))]
 pub fn sub_byte(cipher: Cipher, v: u8) -> u8
     ensures { result ≡ (rules_of cipher).byte_by_s v }
 {
-    byte_at(word_with(cipher, v), v)
+    byte_at(table_of(cipher)[usize::from(v) / 4], v)
 }
