@@ -8,6 +8,7 @@ ghost use Rattle.ciphers.specs.Kinds.{rules_of};
 
 use super::cipher::Cipher;
 use super::table;
+use std::array;
 
 const RCON: [u32; 10] = [0x01, 0x02, 0x04, 0x08, 0x10, 0x20, 0x40, 0x80, 0x1b, 0x36];
 
@@ -93,17 +94,12 @@ pub fn mix_columns(s: State) -> State
     s.map(mix_column)
 }
 
-// A word added to a column. Written out, as the check of `array::from_fn` takes four times as long here.
+// A word added to a column.
 fn add_word(col: [u8; 4], w: u32) -> [u8; 4]
     ensures { result ≡ listed 4 (λ i. bit_xor (slice_index col i) (slice_index (word_bytes w) i)) }
 {
     let key = w.to_be_bytes();
-    [
-        col[0] ^ key[0],
-        col[1] ^ key[1],
-        col[2] ^ key[2],
-        col[3] ^ key[3],
-    ]
+    array::from_fn(|i| col[i] ^ key[i])
 }
 
 // Each column takes its word of four. Written out, as a closure over both would need a contract of two lines.
