@@ -1,4 +1,4 @@
-// Bytes put behind one another.
+// Bytes put behind one another: a vector of bytes that only grows at its end.
 ghost use Rattle.std.specs.Prelude.{◌≡◌, [], ◌++◌, length, IfOk, OnOk};
 ghost use Rattle.answers.specs.Buffers.{held};
 

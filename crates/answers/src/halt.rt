@@ -16,6 +16,7 @@ pub enum Halt<'a> {
     Ended(End),
 }
 
+// By hand: a derived From says nothing of the variant that it gives, and `?` needs that.
 impl From<AllocError> for Halt<'_> {
     ghost from_gives = { λ _ r. r ≡ Ended NoMemory };
 

@@ -1,27 +1,13 @@
 -- Rows of a table: pushing step by step, and a row of the told part.
-use Rattle.std.specs.Prelude.{◌≡◌, ℕ, ◌+◌, ◌*◌, ◌<◌, ◌≤◌, Bool, true, false, cond, List, [], ◌∷◌, ◌++◌, length, take, drop, ◌≢◌, slice_index, slice_index_or, slice_set, ◌==◌, ◌||◌, refl}
+use Rattle.std.specs.Prelude.{◌≡◌, ℕ, ◌+◌, ◌*◌, ◌<◌, ◌≤◌, Bool, true, false, cond, List, [], ◌∷◌, ◌++◌, length, take, drop, slice_index, slice_index_or, slice_set, ◌==◌, ◌||◌, refl}
 use Rattle.std.specs.List.{list_any}
 use Rattle.std.proofs.Common.{sym, ap, ◌∙◌, add-one, arith}
-use Rattle.std.proofs.lemmas.List.{append-nil, append_assoc, length-append, length-take, length-drop, take-append-drop, take_at, take_all, drop_all, take-append-le, drop-append-le, drop_more, take_more_set, drop-set-lt, set_split}
-use Rattle.std.proofs.lemmas.Bool.{ne_eqb, eq-eqb}
+use Rattle.std.proofs.lemmas.List.{append-nil, append_assoc, length-append, length-take, length-drop, take-append-drop, take_at, take_all, drop_all, take-append-le, drop-append-le, drop_more, set_split}
+use Rattle.std.proofs.lemmas.Bool.{eq-eqb}
 use Rattle.caches.specs.Policies.{entering}
 use Rattle.caches.specs.Laws.{pushed, length_newest, length_with_row}
 use Rattle.caches.specs.Places.{set_at, mark_at}
 use Rattle.caches.specs.Lru.{has, newest, row_at, with_row, lru_rules, lru_tags}
-
--- one more way, where the line is not found
-pub pushed_more :
-    (x c : ℕ) (row : List ℕ) (i : ℕ) → i < length row → (slice_index row i ≢ x)
-    → take (i + 1) (slice_set row i c) ++ pushed x (slice_index row i) (drop (i + 1) (slice_set row i c)) ≡ take i row ++ pushed x c (drop i row)
-pushed_more x c row i h ne =
-    let y = slice_index_or row i 0 in
-    let d : drop (i + 1) (slice_set row i c) ≡ drop (i + 1) row = drop-set-lt (i + 1) row i c (omega arith) in
-    let t = take_more_set row i c h in
-    let left : take (i + 1) (slice_set row i c) ++ pushed x y (drop (i + 1) (slice_set row i c)) ≡ (take i row ++ c ∷ []) ++ pushed x y (drop (i + 1) row) = cc in
-    let right : take i row ++ (c ∷ pushed x y (drop (i + 1) row)) ≡ take i row ++ pushed x c (drop i row) =
-    ap (λ (r : List ℕ). take i row ++ r)
-    (ap (λ (b : Bool). c ∷ cond b (drop (i + 1) row) (pushed x y (drop (i + 1) row))) (sym (ne_eqb y x ne)) ∙ ap (pushed x c) (sym (drop_more row i 0 h))) in
-    left ∙ append_assoc (take i row) (c ∷ []) (pushed x y (drop (i + 1) row)) ∙ right
 
 -- where the line is found
 pub pushed_found :

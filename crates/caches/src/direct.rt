@@ -12,6 +12,8 @@ use crate::table::empty_table;
 pub type DirectLayer<M> = Layer<DirectMapped, M>;
 
 // A number for each set: the line that it keeps, plus 1, or 0. The rest of the array is not used.
+// An array and no Vec, since making a layer refuses nothing, not even for want of memory.
+// Its fields are the LRU policy's too, but the two tell the table by other rules: one struct in both would only add a name.
 #[derive(Clone, Copy)]
 pub struct DirectMapped {
     geometry: Geometry,

@@ -28,6 +28,7 @@ impl<P: Policy, M: Memory> Layer<P, M> {
     }
 }
 
+// What a cache does not change goes to the memory below, call by call: Rust has no shorter form for it.
 impl<P: Policy, M: Memory> Memory for Layer<P, M> {
     ghost meaning = { laid P.Policy.tags M.Memory.meaning };
 

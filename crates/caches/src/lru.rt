@@ -13,6 +13,7 @@ use std::mem;
 pub type LruLayer<M> = Layer<Lru, M>;
 
 // Row by row, a number for each way: a line that is kept, plus 1, or 0. The rest of the array is not used.
+// An array and no Vec, since making a layer refuses nothing, not even for want of memory.
 #[derive(Clone, Copy)]
 pub struct Lru {
     geometry: Geometry,

@@ -12,6 +12,7 @@ pub enum Problem<'a> {
     Io(io::Error),
 }
 
+// By hand, as the other faults do: with `thiserror` its message would need a case of its own for the line.
 impl From<io::Error> for Problem<'_> {
     fn from(error: io::Error) -> Self {
         Problem::Io(error)

@@ -29,6 +29,7 @@ pub fn block_of(s: State) -> [u32; 4]
     s.map(u32::from_be_bytes)
 }
 
+// S at a byte. A function for each of the two ciphers, since `map` takes it by name.
 fn sub_byte(v: u8) -> u8
     ensures { result ≡ aes_s v }
 {

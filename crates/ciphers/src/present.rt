@@ -27,7 +27,7 @@ pub fn add_round_key(s: u64, key: u64) -> u64
     s ^ key
 }
 
-// S at both nibbles of a byte.
+// S at both nibbles of a byte: a function by name, as for AES.
 fn sub_byte(v: u8) -> u8
     ensures { result ≡ present_byte v }
 {

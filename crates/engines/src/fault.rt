@@ -12,6 +12,7 @@ pub enum SectionFault {
     TraceTooShort(usize),
 }
 
+// By hand: a derived From says nothing of the variant that it gives, and `?` needs that.
 impl From<MemoryFault> for SectionFault {
     ghost from_gives = { λ f r. r ≡ ByMemory f };
 

@@ -34,7 +34,7 @@ pub enum MemoryFault {
 const MEMORY_LAYER: u32 = 1;
 
 impl MemoryFault {
-    // The number under which the fault is listed.
+    // The number under which the fault is listed. A number and no name, since refusals are told by it.
     pub fn number(self) -> u32
         ensures { result ≡ (code self).number }
     {

@@ -15,6 +15,7 @@ pub struct Slot<P, M> {
     pub below: M,
 }
 
+// What a cache does not change goes to the memory below, call by call, as in a layer.
 impl<P: Policy, M: Memory> Memory for Slot<P, M> {
     ghost meaning = { λ s. slotted P.Policy.tags s.cache (M.Memory.meaning s.below) };
 

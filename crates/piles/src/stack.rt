@@ -30,6 +30,7 @@ pub trait Stack<P: Policy, B: Memory>: Memory {
         ensures { result ≡ (room self.now == 0) };
 
     // One more layer on top; a full pile stays as it was.
+    // Not a Cache as one parameter: an impl can't take over the clauses of a trait's method that has one.
     fn put(&mut self, policy: P, hit: Price) -> Result<(), Full>
         ensures { Puts Self.Memory.meaning room self.old (P.Policy.tags policy) hit.value self.new result };
 }

@@ -32,7 +32,7 @@ pub enum BenchFault {
 const BENCH_LAYER: u32 = 2;
 
 impl BenchFault {
-    // The number under which the fault is listed.
+    // The number under which the fault is listed. A number and no name, since refusals are told by it.
     pub fn number(self) -> u32
         ensures { result ≡ (bench_code self).number }
     {
@@ -75,6 +75,7 @@ impl BenchFault {
     }
 }
 
+// By hand: a derived From says nothing of the variant that it gives, and `?` needs that.
 impl From<MemoryFault> for BenchFault {
     ghost from_gives = { λ f r. r ≡ ByMemory f };
 

@@ -8,7 +8,7 @@ ghost use Rattle.text.specs.Numbers.{decimal_of, hexadecimal_of};
 use crate::command::{PolicyName, StoreKind};
 use text::numbers::{decimal, hexadecimal};
 
-/// Whether a word is a given name.
+/// Whether a word is a given name: `==`, told in the grammar's words, so that no use of it needs a proof.
 pub fn is(word: &[u8], name: &[u8]) -> bool
     ensures { result ≡ bytes_eq word.now name.now }
 {
@@ -54,6 +54,7 @@ impl FromWord for PolicyName {
     ghost meaning = { policy_of };
 
     fn from_word(word: &[u8]) -> Option<PolicyName> {
+        // Not a match on byte strings: its first arm's proof stayed open.
         if is(word, b"direct") {
             Some(PolicyName::Direct)
         } else if is(word, b"lru") {

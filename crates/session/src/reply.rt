@@ -35,6 +35,7 @@ pub enum Stop {
     Ended(End),
 }
 
+// By hand: a derived From says nothing of the variant that it gives, and `?` needs that.
 impl From<MemoryFault> for Stop {
     ghost from_gives = { λ f r. r ≡ Refused f };
 

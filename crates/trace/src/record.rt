@@ -20,6 +20,7 @@ pub enum Unrecorded {
     NoRoom,
 }
 
+// By hand: a derived From says nothing of the variant that it gives, and `?` needs that.
 impl From<MemoryFault> for Unrecorded {
     ghost from_gives = { λ f r. r ≡ ByMemory f };
 

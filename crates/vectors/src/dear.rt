@@ -1,4 +1,5 @@
-// A memory of four words at a price that no setting reaches, to see where the price of a layer stops.
+// A memory of four words at a price that no setting reaches, to see where the price of a layer stops. It can't be a flat
+// store, whose prices exist only checked.
 ghost use Rattle.std.specs.Prelude.{◌≡◌, [], length};
 ghost use Rattle.memory.specs.Flats.{flat_meaning};
 ghost use Rattle.std.proofs.Common.{rules};
