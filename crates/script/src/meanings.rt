@@ -15,7 +15,7 @@ pub fn is(word: &[u8], name: &[u8]) -> bool
     word == name
 }
 
-/// What one word of a command can say.
+/// What one word of a command can say. Not `FromStr`, which reads a text: a word is bytes that may be none.
 pub trait FromWord {
     ghost meaning: { List ℕ → Option Self };
 
