@@ -8,7 +8,7 @@ use piles::stack::Stack;
 use session::session::Session;
 use std::io;
 use std::io::Write;
-use text::scanner::Scanner;
+use text::scanner::Lines;
 
 // Answers are printed once there are so many bytes of them, so that memory stays bounded.
 const ENOUGH: usize = 65536;
@@ -34,18 +34,15 @@ fn run_lines<'a, T: Stack<Kept, Flat> + Drop>(
     out: &mut Buffer,
 ) -> Result<(), Problem<'a>> {
     let mut session: Session<T> = Session::new();
-    let mut scanner = Scanner::new(text);
-    loop {
-        if let Err(halt) = answer_line(&mut session, rt.alloc(), scanner.words(), out) {
-            return Err(Problem::Halted(scanner.line(), halt));
+    for line in Lines::new(text) {
+        if let Err(halt) = answer_line(&mut session, rt.alloc(), line.words, out) {
+            return Err(Problem::Halted(line.number, halt));
         }
         if out.len() >= ENOUGH {
             flush(rt, out)?;
         }
-        if !scanner.next_line() {
-            return Ok(());
-        }
     }
+    Ok(())
 }
 
 // Runs a script on a pile of type T. The answers up to a mistaken line are printed before the message about it.

@@ -16,7 +16,7 @@ use text::scanner::Words;
 fn take<'a, T: FromWord>(words: &mut Words<'a>, expected: Expected) -> Result<T, Mistake<'a>>
     ensures { told_with result (unread words.new) ≡ one expected T.meaning (unread words.old) }
 {
-    let found = words.next_word();
+    let found = words.next();
     found
         .and_then(|word| T::from_word(word))
         .ok_or(Mistake { expected, found })
@@ -116,11 +116,11 @@ fn named<'a>(name: &'a [u8], words: &mut Words<'a>) -> Result<Command, Mistake<'
 pub fn parse_command<'a>(mut words: Words<'a>) -> Result<Option<Command>, Mistake<'a>>
     ensures { told result ≡ command_of (unread words.entry) }
 {
-    let Some(name) = words.next_word() else {
+    let Some(name) = words.next() else {
         return Ok(None);
     };
     let command = named(name, &mut words)?;
-    match words.next_word() {
+    match words.next() {
         None => Ok(Some(command)),
         found => Err(Mistake {
             expected: Expected::LineEnd,

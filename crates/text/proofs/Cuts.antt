@@ -1,11 +1,11 @@
 -- How a word is cut off a line, and where the next line begins.
-use Rattle.std.proofs.Common.{◌≡◌, ℕ, suc, ◌+◌, ◌<◌, ◌≤◌, true, List, [], ◌∷◌, length, take, drop, Some, None, slice_index, ◌==◌, sym, refl, ap, ◌∙◌, subst, inl, inr, add-one, one-add, arith, length-drop}
+use Rattle.std.proofs.Common.{◌≡◌, ℕ, suc, ◌+◌, ◌<◌, true, List, [], ◌∷◌, length, take, drop, Some, None, slice_index, ◌==◌, sym, refl, ap, ◌∙◌, subst, inl, inr, add-one, one-add, arith, length-drop}
 use Rattle.std.proofs.lemmas.Bool.{cases_Bool}
-use Rattle.std.proofs.lemmas.List.Sums.{prefix_len_is}
+use Rattle.std.proofs.lemmas.List.Sums.{prefix_len_is, prefix_len-le-length}
 use Rattle.std.specs.List.{prefix_len}
 use Rattle.memchr.specs.Find.{NoneBefore, Nowhere, Passes, is_byte}
 use Rattle.text.specs.Bytes.{in_line, blank, ending, in_word}
-use Rattle.text.specs.Lines.{next_line, beyond}
+use Rattle.text.specs.Lines.{next_line}
 use Rattle.text.specs.Words.{words_from, words_of, after_blanks, front_word, after_word}
 
 -- inside a word, the next words are those past it
@@ -50,6 +50,7 @@ pub record Cut (line first rest : List ℕ) (m : ℕ) : Type 0 where
   pub left : rest ≡ after_word (after_blanks line)
   pub none : m ≡ 0 → words_of line ≡ []
   pub some : 0 < m → words_of line ≡ first ∷ words_of rest
+  pub shorter : 0 < m → length rest < length line
 
 pub cut : (line bare_line first rest : List ℕ) (n m : ℕ)
     → n ≡ prefix_len blank line → bare_line ≡ drop n line → m ≡ prefix_len in_word bare_line → first ≡ take m bare_line → rest ≡ drop m bare_line
@@ -65,6 +66,7 @@ cut line bare_line first rest n m n_is bare_is m_is first_is rest_is =
       none = λ z. skipped line ∙ no_word (after_blanks line) (bare line) (sym m_at ∙ z);
       some = λ l. skipped line ∙ a_word (after_blanks line) (subst (λ k. 0 < k) m_at l)
           ∙ ap (λ w. w ∷ words_of (after_word (after_blanks line))) (sym first_at) ∙ ap (λ r. first ∷ words_of r) (sym rest_at);
+      shorter = λ l. omega (arith, l, m_is, prefix_len-le-length in_word bare_line, ap length rest_is, length-drop m bare_line, ap length bare_is, length-drop n line);
     }
 
 -- what is past the first line feed, where there is one
@@ -78,24 +80,16 @@ no_line_feed [] e = refl
 no_line_feed (b ∷ bs) e =
     elim (cases_Bool (in_line b)) [ inl s ↦ simp s (no_line_feed bs (omega (arith, simp s at e))) | inr s ↦ absurd (omega (arith, simp s at e)) ]
 
--- what stands past a line is no more than the text
-pub beyond_within : (text : List ℕ) → beyond (next_line text) ≤ length text
-beyond_within [] = omega arith
-beyond_within (b ∷ bs) =
-    elim (cases_Bool (in_line b)) [ inl s ↦ simp s (omega (arith, beyond_within bs)) | inr s ↦ simp s (omega arith) ]
-
 -- what is known of the rest past the first line feed
 pub record Past (text rest : List ℕ) : Type 0 where
   pub next : Some rest ≡ next_line text
   pub shorter : length rest < length text
-  pub within : beyond (next_line rest) ≤ length rest
 
 pub past_line : (text rest : List ℕ) (n : ℕ) → n ≡ prefix_len in_line text → n < length text → rest ≡ drop (n + 1) text → Past text rest
 past_line text rest n n_is l rest_is =
     record {
       next = ap Some (rest_is ∙ ap (λ k. drop k text) (add-one n ∙ ap suc n_is)) ∙ sym (line_feed text (subst (λ k. k < length text) n_is l));
       shorter = omega (arith, ap length rest_is, length-drop (n + 1) text);
-      within = beyond_within rest;
     }
 
 outside : (b : ℕ) → ((b == 10) ≡ true → ⊥) → in_line b ≡ true

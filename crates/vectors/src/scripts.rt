@@ -7,7 +7,7 @@ use piles::stack::Stack;
 use session::session::Session;
 use std::process::Abort;
 use std::test::Fail;
-use text::scanner::Scanner;
+use text::scanner::Lines as TextLines;
 
 // Every refusal, one after the other; what is asked for in between shows that each left the pile as it was.
 const REFUSALS: &str = "store flat 5 5 0
@@ -78,7 +78,7 @@ read: 0000002a price 6
 write: price 7
 ";
 
-// Answers a script of at most a hundred lines, and compares.
+// Answers a script, and compares.
 fn answered<T: Stack<Lines, Flat> + Drop>(
     rt: &(impl Abort + AllocGlobal),
     script: &str,
@@ -86,13 +86,9 @@ fn answered<T: Stack<Lines, Flat> + Drop>(
 ) -> Result<(), Fail> {
     let mut out = Buffer::with_capacity(rt.alloc(), 4096)?;
     let mut session: Session<T> = Session::new();
-    let mut scanner = Scanner::new(script.as_bytes());
-    for _ in 0..100 {
-        if answer_line(&mut session, rt.alloc(), scanner.words(), &mut out).is_err() {
+    for line in TextLines::new(script.as_bytes()) {
+        if answer_line(&mut session, rt.alloc(), line.words, &mut out).is_err() {
             return Err(Fail::new("the script stopped"));
-        }
-        if !scanner.next_line() {
-            break;
         }
     }
     assert!(rt; out.as_slice() == expected.as_bytes());

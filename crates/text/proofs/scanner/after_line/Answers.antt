@@ -15,4 +15,4 @@ returns c =
     let end = c.in_ok-end.end in
     let found = c.in_ok-end.ensures in
     let facts = past_line text _ end (feed_at text end found) (omega (arith, found.0.high)) (take_rest text (end + 1)) in
-    record { value = facts.next; shorter = (facts.shorter, facts.within) }
+    record { value = facts.next; shorter = omega (arith, facts.shorter) }
