@@ -4,6 +4,7 @@ ghost use Rattle.caches.specs.Places.{set_at, mark_at};
 ghost use Rattle.caches.specs.Shapes.{Refused};
 
 use memory::fault::{MemoryFault, Rule};
+use std::ops::Range;
 
 // An address below the largest size of a memory.
 #[derive(Clone, Copy)]
@@ -13,7 +14,7 @@ pub struct Held {
 }
 
 // A line length of 1 to 16 words and 1 to 64 sets, each a power of two, and 1 to 8 ways, with at most 64 lines in all.
-#[derive(Clone, Copy)]
+#[derive(Clone, Copy, Debug, PartialEq, Eq)]
 pub struct Geometry {
     pub line: usize,
     pub sets: usize,
@@ -36,7 +37,7 @@ impl Geometry {
         if sets.count_ones() != 1 || sets > 64 {
             return Err(MemoryFault::Geometry(Rule::SetCount));
         }
-        if ways < 1 || ways > 8 {
+        if !(1..=8).contains(&ways) {
             return Err(MemoryFault::Geometry(Rule::WayCount));
         }
         if sets * ways > 64 {
@@ -70,18 +71,21 @@ impl Geometry {
         self.line_of(at) & (self.sets - 1)
     }
 
-    // The line of an address as a table tells it, never 0.
+    // The line of an address as a table tells it, never 0, which tells that no line is kept: no Option, since a clock
+    // state is a list of whole numbers.
     pub(crate) fn mark_of(&self, at: Held) -> u32
         ensures { result ≡ mark_at self.now.line at.address }
     {
         self.line_of(at) as u32 + 1
     }
 
-    // Where the row of an address begins, in a table with a number for each way.
-    pub(crate) fn row_of(&self, at: Held) -> usize
-        ensures { (result ≡ set_at self.now.line self.now.sets at.address * self.now.ways)
-            × (result + self.now.ways ≤ self.now.sets * self.now.ways) }
+    // The row of an address, in a table with a number for each way.
+    pub(crate) fn row_of(&self, at: Held) -> Range<usize>
+        ensures first { result.start ≡ set_at self.now.line self.now.sets at.address * self.now.ways }
+        ensures ways { result.end ≡ result.start + self.now.ways }
+        ensures within { result.end ≤ self.now.sets * self.now.ways }
     {
-        self.set_of(at) * self.ways
+        let first = self.set_of(at) * self.ways;
+        first..first + self.ways
     }
 }

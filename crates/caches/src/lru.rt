@@ -63,16 +63,14 @@ impl Policy for Lru {
     ghost steady = { λ p. lru_steady p.geometry.line p.geometry.sets p.geometry.ways p.geometry.sets_rule.0 p.geometry.ways_rule.0 };
 
     fn keeps(&self, at: Held) -> bool {
-        let first = self.geometry.row_of(at);
-        let end = first + self.geometry.ways;
-        holds(&self.table[first..end], self.geometry.mark_of(at))
+        let row = self.geometry.row_of(at);
+        holds(&self.table[row], self.geometry.mark_of(at))
     }
 
     fn touch(&mut self, at: Held) {
-        let first = self.geometry.row_of(at);
+        let row = self.geometry.row_of(at);
         let mark = self.geometry.mark_of(at);
-        let end = first + self.geometry.ways;
-        promote(&mut self.table[first..end], mark);
+        promote(&mut self.table[row], mark);
     }
 
     fn enter(&mut self, at: Held) {

@@ -58,7 +58,7 @@ impl MemoryFault {
         }
     }
 
-    // Which part of the bench says no.
+    // Which part of the bench says no: a number, as told.
     pub fn layer(self) -> u32
         ensures { result ≡ (code self).layer }
     {

@@ -17,7 +17,7 @@ pub fn check_word_count(count: usize) -> Result<(), MemoryFault>
         (λ _. (1 ≤ count) × (count ≤ 4096))
         (λ f. (1 ≤ count → 4096 < count) × (f ≡ WordCount count)) }
 {
-    if count < 1 || count > MOST_WORDS {
+    if !(1..=MOST_WORDS).contains(&count) {
         return Err(MemoryFault::WordCount(count));
     }
     Ok(())

@@ -6,6 +6,7 @@ ghost use Rattle.memory.specs.Calls.{Peeks, Admits, Pokes, Fetches, Stores, Refu
 
 use crate::fault::MemoryFault;
 
+// Addresses, counts and words stand by themselves in its calls, which are the interface.
 pub trait Memory {
     // Its contents, its clock state and its make.
     ghost meaning: { Self → Meaning };

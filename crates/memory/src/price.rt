@@ -6,7 +6,7 @@ ghost use Rattle.memory.specs.declared.fault.Setting.TheVariants.{First, Second}
 use crate::fault::{MemoryFault, Setting};
 
 // A price setting: at most 255 cycles.
-#[derive(Clone, Copy)]
+#[derive(Clone, Copy, Debug, PartialEq, Eq)]
 pub struct Price {
     value: u32,
     ghost small: { value ≤ 255 },
@@ -44,7 +44,7 @@ impl Price {
 }
 
 // Two price settings that belong together, as a store's for reads and for writes.
-#[derive(Clone, Copy)]
+#[derive(Clone, Copy, Debug, PartialEq, Eq)]
 pub struct Prices {
     pub first: Price,
     pub second: Price,
