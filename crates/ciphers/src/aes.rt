@@ -29,17 +29,10 @@ pub fn block_of(s: State) -> [u32; 4]
     s.map(u32::from_be_bytes)
 }
 
-// S at a byte. A function for each of the two ciphers, since `map` takes it by name.
-fn sub_byte(v: u8) -> u8
-    ensures { result ≡ aes_s v }
-{
-    table::sub_byte(Cipher::Aes128, v)
-}
-
 fn sub_column(col: [u8; 4]) -> [u8; 4]
     ensures { result ≡ listed 4 (λ i. aes_s (slice_index col i)) }
 {
-    col.map(sub_byte)
+    col.map(|v| table::sub_byte(Cipher::Aes128, v))
 }
 
 pub fn sub_bytes(s: State) -> State
@@ -103,7 +96,8 @@ fn add_word(col: [u8; 4], w: u32) -> [u8; 4]
     array::from_fn(|i| col[i] ^ key[i])
 }
 
-// Each column takes its word of four. Written out, as a closure over both would need a contract of two lines.
+// Each column takes its word of four. Written out: with `array::from_fn` the proof stays open, unless the closure has a
+// contract that is longer than this.
 #[tactic(auto, unfolding(crate::specs::Aes::aes_add_key))]
 pub fn add_round_key(s: State, key: [u32; 4]) -> State
     ensures { result ≡ aes_add_key key s }

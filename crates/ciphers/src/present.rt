@@ -6,7 +6,7 @@ ghost use Rattle.ciphers.specs.Present.{present_register, rotated_register, top_
 use super::cipher::Cipher;
 use super::table;
 
-// The state of a block of two words, the first on top.
+// The state of a block of two words, the first on top. Functions and no From, since both types are the language's.
 pub fn state_of(block: [u32; 2]) -> u64
     ensures { result ≡ words_number (slice_index block 0) (slice_index block 1) }
 {
@@ -27,19 +27,15 @@ pub fn add_round_key(s: u64, key: u64) -> u64
     s ^ key
 }
 
-// S at both nibbles of a byte: a function by name, as for AES.
-fn sub_byte(v: u8) -> u8
-    ensures { result ≡ present_byte v }
-{
-    table::sub_byte(Cipher::Present80, v)
-}
-
 // S at every nibble, byte by byte from the top.
 #[tactic(auto, using(crate::proofs::Nibbles::layer_by_bytes))]
 pub fn sub_nibbles(s: u64) -> u64
     ensures { result ≡ present_layer s }
 {
-    u64::from_be_bytes(s.to_be_bytes().map(sub_byte))
+    u64::from_be_bytes(
+        s.to_be_bytes()
+            .map(|v| table::sub_byte(Cipher::Present80, v)),
+    )
 }
 
 // The bit that moves to a place.
@@ -64,7 +60,7 @@ fn sub_nibble(v: u8) -> u8
     ensures value { result ≡ present_s v }
     ensures nibble { result < 16 }
 {
-    sub_byte(v) % 16
+    table::sub_byte(Cipher::Present80, v) % 16
 }
 
 // The key register: 80 bits, of which the 64 on top are the round key.
