@@ -48,8 +48,7 @@ fn push_labelled(out: &mut Buffer, label: &[u8], n: usize) -> Result<(), AllocEr
     ensures { OnOk result (held out.new ≡ held out.old ++ labelled label.now n) }
 {
     out.put(label)?;
-    push_decimal(out, n)?;
-    Ok(())
+    push_decimal(out, n)
 }
 
 // A command that was done.

@@ -1,4 +1,4 @@
-// Bytes put behind one another: a vector of bytes that only grows at its end.
+// Bytes put behind one another. A type of its own and no bare Vec: it grows by `put` alone, and is forgotten as a whole.
 ghost use Rattle.std.specs.Prelude.{◌≡◌, [], ◌++◌, length, IfOk, OnOk};
 ghost use Rattle.answers.specs.Buffers.{held};
 

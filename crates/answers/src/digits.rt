@@ -1,4 +1,4 @@
-// Numbers as text, put behind what is there.
+// Numbers as text, put behind what is there. By hand for the reason that answer.rt gives.
 ghost use Rattle.std.specs.Prelude.{◌≡◌, ◌++◌, decimal, OnOk};
 ghost use Rattle.answers.specs.Buffers.{held};
 ghost use Rattle.answers.specs.Digits.{word_digits};

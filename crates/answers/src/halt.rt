@@ -8,7 +8,7 @@ use session::reply::End;
 use std::alloc::AllocError;
 use std::{fmt, str};
 
-#[derive(Clone, Copy)]
+#[derive(Clone, Copy, Debug, PartialEq, Eq)]
 pub enum Halt<'a> {
     // The line is no command.
     Mistake(Mistake<'a>),

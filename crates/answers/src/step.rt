@@ -19,7 +19,7 @@ use session::session::Session;
 use std::alloc::{AllocError, Global};
 use text::scanner::Words;
 
-// The line that answers a command.
+// The line that answers a command. What it goes to and what it answers stay two parameters, as in every `push`.
 fn push_line<A: Answer + Drop>(
     out: &mut Buffer,
     command: Command,
@@ -29,8 +29,7 @@ fn push_line<A: Answer + Drop>(
 {
     push_name(out, command)?;
     answer.push(out)?;
-    out.put(b"\n")?;
-    Ok(())
+    out.put(b"\n")
 }
 
 // The answer of a command that came out so, or why the script stops.

@@ -82,8 +82,8 @@ impl<P: Policy> Cache<P> {
         Ok(self.through(price))
     }
 
-    #[tactic(auto, using(crate::proofs::Stacking::chills))]
     // Keeps no line any more, and the memory below goes cold.
+    #[tactic(auto, using(crate::proofs::Stacking::chills))]
     pub fn chill<M: Memory>(&mut self, below: &mut M)
         ensures { atop P.Policy.tags self.new (M.Memory.meaning below.new)
             ≡ chilled (atop P.Policy.tags self.old (M.Memory.meaning below.old)) }

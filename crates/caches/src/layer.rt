@@ -49,8 +49,7 @@ impl<P: Policy, M: Memory> Memory for Layer<P, M> {
     }
 
     fn poke(&mut self, address: usize, word: u32) -> Result<(), MemoryFault> {
-        self.below.poke(address, word)?;
-        Ok(())
+        self.below.poke(address, word)
     }
 
     fn fetch(&mut self, address: usize) -> Result<(u32, u32), MemoryFault> {

@@ -89,10 +89,8 @@ fn main(rt: HostRuntime) -> ExitCode {
         Ok(path) => path,
         Err(problem) => return report(&rt, Err(problem)),
     };
-    if let Some(word) = &path {
-        if word.as_str() == "--help" {
-            return report(&rt, print_help(&rt));
-        }
+    if path.as_ref().is_some_and(|word| word.as_str() == "--help") {
+        return report(&rt, print_help(&rt));
     }
     match script_text(&rt, path) {
         Ok(text) => report(&rt, run_pile(&rt, text.as_slice())),

@@ -1,4 +1,5 @@
-// A script from its first line to its last, or to the first line at which it can't go on.
+// A script from its first line to its last, or to the first line at which it can't go on. The handle goes down to what
+// prints or takes memory.
 use crate::problem::Problem;
 use answers::buffer::Buffer;
 use answers::step::answer_line;

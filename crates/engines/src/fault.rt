@@ -1,4 +1,4 @@
-// Why a section was not done. It has then altered nothing.
+// Why a section was not done. It has then altered nothing. The bench has more to say no to, and an error of its own.
 ghost use Rattle.std.specs.Prelude.{◌≡◌};
 ghost use Rattle.engines.specs.declared.fault.SectionFault.TheVariants.{Memory as ByMemory, TraceTooShort};
 

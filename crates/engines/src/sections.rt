@@ -24,7 +24,8 @@ pub struct Totals {
     pub cycles: u32,
 }
 
-// Does a section that writes these words, and asks for nothing else.
+// Does a section that writes these words, and asks for nothing else. The memory, the trace and the pen are the caller's,
+// each lent for itself: as fields of one struct nothing would be known of them afterwards.
 fn write_section<M: Memory>(
     memory: &mut M,
     trace: &mut [u32],

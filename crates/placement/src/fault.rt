@@ -48,7 +48,7 @@ impl BenchFault {
         }
     }
 
-    // What the fault points at: a region, an argument, a count or a length.
+    // What the fault points at: a region, an argument (the first or the second), a count or a length. A number, as told.
     pub fn place(self) -> usize
         ensures { result ≡ (bench_code self).place }
     {
@@ -64,7 +64,7 @@ impl BenchFault {
         }
     }
 
-    // Which part says no: the memory, or the bench.
+    // Which part says no: the memory, or the bench. A number, as told.
     pub fn layer(self) -> u32
         ensures { result ≡ (bench_code self).layer }
     {

@@ -70,7 +70,7 @@ pub enum Expected {
 }
 
 /// Where a line goes wrong: what should stand there, and the word that does, or none at the line's end.
-#[derive(Clone, Copy)]
+#[derive(Clone, Copy, PartialEq, Eq, Debug)]
 pub struct Mistake<'a> {
     pub expected: Expected,
     pub found: Option<&'a [u8]>,

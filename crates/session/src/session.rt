@@ -13,7 +13,8 @@ use piles::stack::Stack;
 use script::command::{Command, NewLayer, NewStore};
 use std::alloc::Global;
 
-// The pile that the script made last, if any.
+// The pile that the script made last, if any. Each call takes it by `ok_or`: a function that lent it would have to promise
+// what comes back of the loan.
 #[derive(Drop)]
 pub struct Session<T> {
     pile: Option<T>,

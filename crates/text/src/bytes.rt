@@ -4,7 +4,7 @@ ghost use Rattle.std.specs.Prelude.{◌≡◌, ◌≤◌, length};
 ghost use Rattle.std.specs.List.{prefix_len};
 ghost use Rattle.text.specs.Bytes.{belongs};
 
-/// What a byte can be part of.
+/// What a byte can be part of. An enum and no closure, so that what `run` promises names the class alone.
 #[derive(Clone, Copy, Debug, PartialEq, Eq)]
 pub enum Class {
     /// The blanks between words. A carriage return is one, so that lines may end in `\r\n`.

@@ -31,7 +31,8 @@ pub struct Lines<'a> {
     ghost counted: { passed + left rest ≤ 2 ^ 63 },
 }
 
-/// A text as the first word of its line, which is empty where the line has no word, and what follows that.
+/// A text as the first word of its line, which is empty where the line has no word, and what follows that. An empty slice
+/// and no Option, since what follows is there in both cases.
 fn cut_word(text: &[u8]) -> (&[u8], &[u8])
     ensures word { result.0.now ≡ front_word (after_blanks text.now) }
     ensures rest { result.1.now ≡ after_word (after_blanks text.now) }

@@ -1,7 +1,7 @@
 // A list over a lent slice: as many items as the slice has room for, one behind the other.
 ghost use Rattle.std.specs.Prelude.{◌≡◌, ℕ, ◌+◌, ◌<◌, ◌≤◌, length, nat_le, slice_set, MatchResult};
 
-// There is no room for one more item.
+// There is no room for one more item. A pile that is full says so by a type of its own crate.
 #[derive(Clone, Copy, Debug, PartialEq, Eq)]
 pub struct Full;
 
