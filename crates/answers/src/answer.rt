@@ -1,5 +1,5 @@
 // The line that answers a command, put behind what is there.
-// By hand and not by Display: with `write!` the program took 1.93 times the plain one's instructions, by hand 1.41; its bar is 1.5.
+// By hand and not by Display: with `write!` the program took 1.93 times the plain one's instructions, by hand 1.40; its bar is 1.5.
 ghost use Rattle.std.specs.Prelude.{◌≡◌, ℕ, List, ◌++◌, OnOk};
 ghost use Rattle.answers.specs.Buffers.{held};
 ghost use Rattle.answers.specs.Answers.{name_of, labelled, reply_text, refusal_text};

@@ -26,6 +26,7 @@ pub struct Geometry {
 }
 
 impl Geometry {
+    // A power of two has one bit set: its rule is told by counted ones.
     pub fn new(line: usize, sets: usize, ways: usize) -> Result<Geometry, MemoryFault>
         ensures { MatchResult result
             (λ g. (g.line ≡ line) × (g.sets ≡ sets) × (g.ways ≡ ways))

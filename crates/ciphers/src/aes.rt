@@ -15,7 +15,7 @@ const RCON: [u32; 10] = [0x01, 0x02, 0x04, 0x08, 0x10, 0x20, 0x40, 0x80, 0x1b, 0
 // Four columns of four rows.
 pub type State = [[u8; 4]; 4];
 
-// The state of a block of words: word c is column c.
+// The state of a block of words: word c is column c. Functions and no From, since both types are the language's.
 pub fn state_of(block: [u32; 4]) -> State
     ensures { result ≡ words_state block }
 {
