@@ -1,16 +1,17 @@
 // What a line should have had where it went wrong, in plain words.
 
 ghost use Rattle.script.specs.Messages.{field_name, message};
-ghost use Rattle.std.specs.Prelude.{Some};
+ghost use Rattle.std.specs.Prelude.{◌≡◌, Some};
 
 use crate::command::{Expected, Field};
 use std::fmt;
 
-impl fmt::Display for Field {
-    ghost output = { λ field. Some (field_name field) };
-
-    fn fmt<W: fmt::Write>(&self, f: &mut fmt::Formatter<W>) -> fmt::Result {
-        f.write_str(match self {
+impl Field {
+    /// The field as the commands are written. Beside `Display`, since it needs no writer and can't fail.
+    pub fn name(self) -> &'static str
+        ensures { result.now ≡ field_name self }
+    {
+        match self {
             Field::Read => "READ",
             Field::Write => "WRITE",
             Field::Size => "SIZE",
@@ -19,7 +20,15 @@ impl fmt::Display for Field {
             Field::Ways => "WAYS",
             Field::Hit => "HIT",
             Field::Address => "A",
-        })
+        }
+    }
+}
+
+impl fmt::Display for Field {
+    ghost output = { λ field. Some (field_name field) };
+
+    fn fmt<W: fmt::Write>(&self, f: &mut fmt::Formatter<W>) -> fmt::Result {
+        f.write_str(self.name())
     }
 }
 

@@ -1,6 +1,7 @@
 -- How a word is cut off a line, and where the next line begins.
-use Rattle.std.proofs.Common.{◌≡◌, ℕ, suc, ◌+◌, ◌<◌, true, List, [], ◌∷◌, length, take, drop, Some, None, slice_index, ◌==◌, sym, refl, ap, ◌∙◌, subst, inl, inr, add-one, one-add, arith, length-drop}
+use Rattle.std.proofs.Common.{◌≡◌, ℕ, suc, ◌+◌, ◌<◌, ◌≤◌, Bool, true, false, eqb, List, [], ◌∷◌, length, take, drop, Some, None, slice_index, ◌==◌, sym, refl, ap, ◌∙◌, subst, inl, inr, add-one, one-add, arith, length-drop}
 use Rattle.std.proofs.lemmas.Bool.{cases_Bool}
+use Rattle.std.proofs.lemmas.Bool.Decides.{nat_tests}
 use Rattle.std.proofs.lemmas.List.Sums.{prefix_len_is, prefix_len-le-length}
 use Rattle.std.specs.List.{prefix_len}
 use Rattle.memchr.specs.Find.{NoneBefore, Nowhere, Passes, is_byte}
@@ -44,12 +45,30 @@ a_word (b ∷ bs) h =
           [ inl t ↦ absurd (omega (arith, simp (s, t) at h)) | inr t ↦ simp (s, t, one-add) (ap (λ ws. (b ∷ take (prefix_len in_word bs) bs) ∷ ws) (past bs)) ]
     ]
 
+-- a byte that is no line feed does not end the line
+same_line : (b : ℕ) (bs : List ℕ) → eqb b 10 ≡ false → next_line (b ∷ bs) ≡ next_line bs
+same_line b bs e = simp e
+
+blank_inline : (b : ℕ) → blank b ≡ true → eqb b 10 ≡ false
+blank_inline b h = grind (arith, nat_tests)
+
+word_inline : (b : ℕ) → in_word b ≡ true → eqb b 10 ≡ false
+word_inline b h = grind (arith, nat_tests)
+
+-- bytes that are no line feeds leave the next line where it is
+past_run : (p : ℕ → Bool) → ((b : ℕ) → p b ≡ true → eqb b 10 ≡ false) → (text : List ℕ) → next_line (drop (prefix_len p text) text) ≡ next_line text
+past_run p inline [] = refl
+past_run p inline (b ∷ bs) =
+    elim (cases_Bool (p b)) [ inl s ↦ simp (s, one-add) (past_run p inline bs ∙ sym (same_line b bs (inline b s))) | inr s ↦ simp s ]
+
 -- what is known where the first m bytes of a line past its blanks are cut off
 pub record Cut (line first rest : List ℕ) (m : ℕ) : Type 0 where
   pub front : first ≡ front_word (after_blanks line)
   pub left : rest ≡ after_word (after_blanks line)
   pub none : m ≡ 0 → words_of line ≡ []
   pub some : 0 < m → words_of line ≡ first ∷ words_of rest
+  pub same : next_line rest ≡ next_line line
+  pub within : length rest ≤ length line
   pub shorter : 0 < m → length rest < length line
 
 pub cut : (line bare_line first rest : List ℕ) (n m : ℕ)
@@ -66,6 +85,8 @@ cut line bare_line first rest n m n_is bare_is m_is first_is rest_is =
       none = λ z. skipped line ∙ no_word (after_blanks line) (bare line) (sym m_at ∙ z);
       some = λ l. skipped line ∙ a_word (after_blanks line) (subst (λ k. 0 < k) m_at l)
           ∙ ap (λ w. w ∷ words_of (after_word (after_blanks line))) (sym first_at) ∙ ap (λ r. first ∷ words_of r) (sym rest_at);
+      same = ap next_line rest_at ∙ past_run in_word word_inline (after_blanks line) ∙ past_run blank blank_inline line;
+      within = omega (arith, ap length rest_is, length-drop m bare_line, ap length bare_is, length-drop n line);
       shorter = λ l. omega (arith, l, m_is, prefix_len-le-length in_word bare_line, ap length rest_is, length-drop m bare_line, ap length bare_is, length-drop n line);
     }
 

@@ -19,8 +19,9 @@ pub record Begins (text : List ℕ) (s : Lines) (l : Line) (t : Lines) : Type 0 
 abbrev pub NextLine : Lines → Option Line → Lines → Type 0
 NextLine s r t = MatchOption s.rest ((r ≡ None) × (t.rest ≡ None) × (t.passed ≡ s.passed)) (λ text. MatchOption r ⊥ (λ l. Begins text.now s l t))
 
--- the word that comes next, if there is one more, and what stands past it
+-- the word that comes next, if there is one more, and what stands past it: the line ends where it did
 abbrev pub NextWord : Words → Option (Bor (List ℕ)) → Words → Type 0
 NextWord s r t =
     MatchOption r (words_of s.rest.now ≡ []) (λ w. words_of s.rest.now ≡ w.now ∷ words_of t.rest.now)
     × (t.rest.now ≡ after_word (after_blanks s.rest.now))
+    × (next_line t.rest.now ≡ next_line s.rest.now)

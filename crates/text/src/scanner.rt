@@ -38,6 +38,8 @@ fn cut_word(text: &[u8]) -> (&[u8], &[u8])
     ensures rest { result.1.now ≡ after_word (after_blanks text.now) }
     ensures none { length result.0.now ≡ 0 → words_of text.now ≡ [] }
     ensures some { 0 < length result.0.now → words_of text.now ≡ result.0.now ∷ words_of result.1.now }
+    ensures line { next_line result.1.now ≡ next_line text.now }
+    ensures within { length result.1.now ≤ length text.now }
     ensures shorter { 0 < length result.0.now → length result.1.now < length text.now }
 {
     let (_, text) = text.split_at(Class::Blank.run(text));

@@ -14,5 +14,7 @@ returns c =
       rest = facts.left;
       none = λ e. facts.none (omega (arith, c.split_at-2.ensures.front_len));
       some = λ l. facts.some (omega (arith, c.split_at-2.ensures.front_len));
+      line = facts.same;
+      within = facts.within;
       shorter = λ l. facts.shorter (omega (arith, c.split_at-2.ensures.front_len));
     }
