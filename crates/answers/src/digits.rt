@@ -14,13 +14,20 @@ pub fn push_decimal(out: &mut Buffer, n: usize) -> Result<(), AllocError>
     out.put(digits.format(n).as_bytes())
 }
 
-// A memory word as eight hexadecimal digits.
-pub fn push_word(out: &mut Buffer, word: u32) -> Result<(), AllocError>
-    ensures { OnOk result (held out.new ≡ held out.old ++ word_digits word) }
+// The eight hexadecimal digits of a memory word.
+fn word_digits(word: u32) -> [u8; 8]
+    ensures { result ≡ word_digits word }
 {
     let mut digits = [0; 8];
     let Ok(()) = hex::encode_to_slice(word.to_be_bytes(), &mut digits) else {
         unreachable()
     };
-    out.put(&digits)
+    digits
+}
+
+// A memory word as eight hexadecimal digits.
+pub fn push_word(out: &mut Buffer, word: u32) -> Result<(), AllocError>
+    ensures { OnOk result (held out.new ≡ held out.old ++ word_digits word) }
+{
+    out.put(&word_digits(word))
 }
